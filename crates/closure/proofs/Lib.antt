@@ -1,0 +1,10 @@
+pub mod Order
+pub mod Walks
+pub mod Simple
+pub mod Chains
+pub mod Places
+pub mod Fits
+pub mod Loops
+pub mod Reached
+pub mod Measured
+pub mod KindLaws

@@ -1,0 +1,4 @@
+pub mod Steps
+pub mod Kinds
+pub mod Fitting
+pub mod Ways

@@ -1,0 +1,4 @@
+pub mod Algebra
+pub mod Bits
+pub mod Meaning
+pub mod Reading
