@@ -21,7 +21,7 @@ COUNT, SEED, LONGEST = 900, 7, 400
 
 
 def main():
-    files = [data for _, data in fuzz.files(COUNT, SEED) if len(data) <= LONGEST]
+    files = [data for _, data in fuzz.files(COUNT, SEED, framing=True) if len(data) <= LONGEST]
     with open(os.path.join(CRATE, "stdin"), "wb") as out:
         for data in files:
             out.write(len(data).to_bytes(2, "little") + data)

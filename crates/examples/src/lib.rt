@@ -23,7 +23,10 @@ mod tests {
     fn a_chain_reaches_on() -> Result<(), Fail> {
         let mut steps = [false, true, false, false, false, true, false, false, false];
         check_eq(reach(&mut steps, 3), Ok(()))?;
-        check_eq(steps, [false, true, true, false, false, true, false, false, false])
+        check_eq(
+            steps,
+            [false, true, true, false, false, true, false, false, false],
+        )
     }
 
     #[test]

@@ -2,7 +2,7 @@
 use mathlib.Core.List.{List}
 use Prim.Native.Nat.{ℕ}
 use Rattle.records.specs.Counts.{tally-text}
-use Rattle.records.specs.Numbers.{fault-text}
+use Rattle.casefile.specs.Numbers.{fault-text}
 use Rattle.verdict.specs.declared.line.Line.{Line}
 use Rattle.verdict.specs.declared.line.Line.the-variants.{Whole, Broken}
 

@@ -1,8 +1,8 @@
 // The line that the program prints.
 ghost use Rattle.std.specs.declared.option.Option.the-variants.{Some};
 ghost use Rattle.verdict.specs.Text.{line-text};
-use records::fault::Fault;
-use records::fault::FaultDisplay;
+use casefile::fault::Fault;
+use casefile::printing::FaultDisplay;
 use records::survey::Tally;
 use records::survey::TallyDisplay;
 use std::fmt;

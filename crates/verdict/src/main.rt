@@ -4,10 +4,13 @@ ghost use Rattle.verdict.specs.Answer.{Answers};
 
 mod line;
 
+use casefile::fault::Cause;
+use casefile::fault::Fault;
+use casefile::fault::FaultFromRecords;
+use casefile::input::read;
 use line::Line;
 use line::LineDisplay;
-use records::fault::Cause;
-use records::fault::Fault;
+use records::fault::Cause as RecordCause;
 use records::survey::survey;
 use std::io;
 use std::io::Read;
@@ -21,13 +24,16 @@ fn answer(input: &[u8]) -> Line
 {
     if input.len() > LIMIT {
         return Line::Broken(Fault {
-            cause: Cause::Oversize,
+            cause: Cause::Framing(RecordCause::Oversize),
             place: LIMIT,
         });
     }
+    if let Err(fault) = read(input) {
+        return Line::Broken(fault);
+    }
     match survey(input) {
         Ok(tally) => Line::Whole(tally),
-        Err(fault) => Line::Broken(fault),
+        Err(fault) => Line::Broken(Fault::from(fault)),
     }
 }
 

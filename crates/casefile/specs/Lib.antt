@@ -1,0 +1,4 @@
+pub mod Calls
+pub mod Files
+pub mod Steps
+pub mod Numbers

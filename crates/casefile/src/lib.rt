@@ -1,0 +1,4 @@
+// Case files: a sheet and questions about it, as records.
+pub mod fault;
+pub mod input;
+pub mod printing;
