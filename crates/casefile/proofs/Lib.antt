@@ -1,3 +1,4 @@
 pub mod Taking
 pub mod Unique
 pub mod Reading
+pub mod Standing

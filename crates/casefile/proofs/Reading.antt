@@ -1,23 +1,21 @@
 -- What the turns of the reader and the answers of the sheet say of the file.
-use mathlib.Core.Path.{_≡_, refl, sym, ap, ap₂, subst, _∙_}
-use mathlib.Core.Bool.{Bool, true, false, cond}
+use mathlib.Core.Path.{_≡_, sym, ap, subst, _∙_}
+use mathlib.Core.Bool.{Bool, true, false}
 use mathlib.Core.List.{List, [], _∷_, _++_, append-assoc}
 use Prim.Native.Nat.{ℕ}
 use native.Mathlib.Omega.{arith}
-use lib.ListN.{length}
 use Rattle.std.proofs.shelf.Lists.{joined-more}
 use Rattle.std.specs.declared.option.Option.{Option}
 use Rattle.std.specs.declared.option.Option.the-variants.{Some, None}
 use Rattle.std.specs.declared.result.Result.{Result}
 use Rattle.std.specs.declared.result.Result.the-variants.{Ok, Err}
 use Rattle.records.specs.declared.fault.Fault.{Fault as RecordFault}
-use Rattle.records.specs.declared.mark.Mark.{Mark}
 use Rattle.records.specs.declared.mark.Phase.{Phase}
 use Rattle.records.specs.declared.mark.Phase.the-variants.{Rows}
 use Rattle.records.specs.declared.mark.Record.{Record}
 use Rattle.records.specs.declared.reader.Reader.{Reader}
-use Rattle.records.specs.Format.{is-row, leads}
-use Rattle.records.specs.Grammar.{Item, encode, file, Next, item, seen}
+use Rattle.records.specs.Format.{is-row}
+use Rattle.records.specs.Grammar.{Item, encode, file, Led, Next, item, seen}
 use Rattle.records.specs.Readers.{rest, Placed, Moved}
 use Rattle.records.proofs.Surveys.{Front, front-more, front-over}
 use Rattle.records.proofs.Unique.{may-stand}
@@ -29,6 +27,7 @@ use Rattle.casefile.specs.declared.fault.Cause.{Cause}
 use Rattle.casefile.specs.declared.fault.Cause.the-variants.{Framing, Sheet}
 use Rattle.casefile.specs.declared.fault.Fault.{Fault}
 use Rattle.casefile.specs.Calls.{call-of, listed, calls, closing, Taken}
+use Rattle.casefile.specs.Cases.{Before}
 use Rattle.casefile.specs.Files.{Faulty, Reads}
 use Rattle.casefile.specs.Steps.{placed, Asked, row-call, Handed, Stopped}
 use Rattle.casefile.proofs.Taking.{asked-ok, asked-err, row-own, row-none, row-made, taken-more, taken-still, taken-record, row-stays, row-closes, other-closes, late-row, closed-once, past-rows, may-close}
@@ -70,12 +69,6 @@ module _ (bs : List ℕ) (r s : Reader) (is : List Item) (o : Result (Option Rec
       let n′ = subst (λ (u : Result (Option Record) RecordFault). Next (r .phase) (rest r) (seen u)) e n in
       let p′ = subst (λ (u : Result (Option Record) RecordFault). Placed (r .at) u) e p in
       (is, c, front-over bs r is (Some (g .cause)) f n′, t, p′ ∙ f .place)
-
-  -- the file is over
-  pub ended : (c : Book) → Taken blank (calls Rows is) c → o ≡ Ok None → Reads bs (Ok c)
-  ended c t e =
-      let n′ = subst (λ (u : Result (Option Record) RecordFault). Next (r .phase) (rest r) (seen u)) e n in
-      (is, front-over bs r is None f n′, t)
 
 -- ---- a record that was handed out
 
@@ -144,23 +137,26 @@ module _ (bs : List ℕ) (is : List Item) (x : Record) (r : Reader) (h : Handed 
 
 -- the next record waits for the sheet of book c, which is closed, or the file is over
 abbrev pub Waiting : List ℕ → Reader → Option Record → Book → Type 0
-Waiting bs r None c = Reads bs (Ok c)
-Waiting bs r (Some x) c =
-    (is : List Item) × (p : Phase) × Handed bs is p x r × (is-row (x .mark) ≡ false) × Taken blank (calls Rows is ++ closing p (x .mark)) c
+Waiting bs r o c = (is : List Item) × Before bs is r o c
 
 -- 1 where a record waits
 abbrev pub waits : Option Record → ℕ
 waits None = 0
 waits (Some x) = 1
 
-pub waits-first : (bs cs : List ℕ) (r : Reader) (o : Result (Option Record) Fault) (n : Option Record) (c d : Book)
-    → Stopped cs r o c → cs ≡ bs → o ≡ Ok n → d ≡ after c Close → Waiting bs r n d
-waits-first bs cs r o None c d s e g f = absurd (subst (λ (u : Result (Option Record) Fault). Stopped cs r u c) g s)
-waits-first bs cs r o (Some x) c d s e g f =
+-- the rows are taken, and the sheet was closed
+pub rows-first : (bs cs : List ℕ) (r : Reader) (o : Result (Option Record) Fault) (n : Option Record) (c d : Book)
+    → Stopped cs r o c → cs ≡ bs → o ≡ Ok n → d ≡ after c Close → (is : List Item) × Led Rows is Rows × Before bs is r n d
+rows-first bs cs r o None c d s e g f = absurd (subst (λ (u : Result (Option Record) Fault). Stopped cs r u c) g s)
+rows-first bs cs r o (Some x) c d s e g f =
     let v : Stopped bs r (Ok (Some x)) c =
     subst (λ (l : List ℕ). Stopped l r (Ok (Some x)) c) e (subst (λ (u : Result (Option Record) Fault). Stopped cs r u c) g s) in
     let close : Taken c (closing Rows (x .mark)) d = subst (λ (ks : List Call). Taken c ks d) (sym (other-closes (x .mark) (v .2))) (may-close c, sym f) in
-    (v .0, Rows, v .1, v .2, taken-more blank c d (calls Rows (v .0)) (closing Rows (x .mark)) (v .3) close)
+    (v .0, v .1 .before, (Rows, v .1, v .2, taken-more blank c d (calls Rows (v .0)) (closing Rows (x .mark)) (v .3) close))
+
+pub waits-first : (bs cs : List ℕ) (r : Reader) (o : Result (Option Record) Fault) (n : Option Record) (c d : Book)
+    → Stopped cs r o c → cs ≡ bs → o ≡ Ok n → d ≡ after c Close → Waiting bs r n d
+waits-first bs cs r o n c d s e g f = let v = rows-first bs cs r o n c d s e g f in (v .0, v .2)
 
 -- a fault among the rows
 pub rows-faulty : (bs cs : List ℕ) (r : Reader) (o : Result (Option Record) Fault) (f : Fault) (c : Book)
@@ -168,34 +164,39 @@ pub rows-faulty : (bs cs : List ℕ) (r : Reader) (o : Result (Option Record) Fa
 rows-faulty bs cs r o f c s e g =
     subst (λ (l : List ℕ). Stopped l r (Err f) c) e (subst (λ (u : Result (Option Record) Fault). Stopped cs r u c) g s)
 
-module _ (bs : List ℕ) (r : Reader) (x : Record) (b c : Book) (w : Waiting bs r (Some x) b) (d : Result (Unit {0}) Cause)
+module _ (bs : List ℕ) (r : Reader) (x : Record) (b c : Book) (is : List Item) (w : Before bs is r (Some x) b) (d : Result (Unit {0}) Cause)
     (a : Asked b (call-of (x .mark) (x .body .now)) tt d c) where
   pub waiting-declined : (f : Fault) → placed d (x .place) ≡ Err f → Reads bs (Err f)
   waiting-declined f g =
       let q = placed-err d (x .place) f g in
       let n = asked-err tt b (call-of (x .mark) (x .body .now)) d c (f .cause) a (q .0) in
-      subst (Faulty bs (f .cause)) (sym (q .1)) (declined bs (w .0) (w .1) x r (w .2) b (f .cause) (n .0) (n .1) (w .4) (n .2) (n .3) (n .4))
+      subst (Faulty bs (f .cause)) (sym (q .1)) (declined bs is (w .0) x r (w .1) b (f .cause) (n .0) (n .1) (w .3) (n .2) (n .3) (n .4))
 
   -- its call is accepted
   module _ (u : Unit {0}) (place : ℕ) (g : placed d place ≡ Ok u) where
-    pub waiting-taken : Taken blank (calls Rows (w .0 ++ item x ∷ [])) c
+    pub waiting-taken : Taken blank (calls Rows (is ++ item x ∷ [])) c
     waiting-taken =
-        taken-record Rows (w .1) (w .0) (item x) blank b c (w .2 .before) (w .4)
+        taken-record Rows (w .0) is (item x) blank b c (w .1 .before) (w .3)
         (asked-ok tt b (call-of (x .mark) (x .body .now)) d c u a (unplaced d place u g) .0)
 
     module _ (s : Reader) (o : Result (Option Record) RecordFault) (n : Next (r .phase) (rest r) (seen o)) (p : Placed (r .at) o) where
       pub waiting-broken : (k : RecordFault) → o ≡ Err k → Faulty bs (Framing (k .cause)) (k .place)
-      waiting-broken k e = broken bs r s (w .0 ++ item x ∷ []) o (passed bs (w .0) (w .1) x r (w .2)) n p c k waiting-taken e
+      waiting-broken k e = broken bs r s (is ++ item x ∷ []) o (passed bs is (w .0) x r (w .1)) n p c k waiting-taken e
 
-      pub waiting-more : (y : Option Record) → Moved r o s → s .file .now ≡ r .file .now → o ≡ Ok y → Waiting bs s y c
-      waiting-more None m e h = ended bs r s (w .0 ++ item x ∷ []) o (passed bs (w .0) (w .1) x r (w .2)) n p c waiting-taken h
-      waiting-more (Some y) m e h =
-          let js = w .0 ++ item x ∷ [] in
-          let more = handed bs r s js o (passed bs (w .0) (w .1) x r (w .2)) n p y m e h in
-          let past = past-rows (w .1) (x .mark) (r .phase) (w .2 .onto) (w .3) in (
-            js,
+      -- the next record waits behind it
+      pub before-more : (y : Option Record) → Moved r o s → s .file .now ≡ r .file .now → o ≡ Ok y → Before bs (is ++ item x ∷ []) s y c
+      before-more None m e h =
+          let n′ = subst (λ (u : Result (Option Record) RecordFault). Next (r .phase) (rest r) (seen u)) h n in
+          (front-over bs r (is ++ item x ∷ []) None (passed bs is (w .0) x r (w .1)) n′, waiting-taken)
+      before-more (Some y) m e h =
+          let js = is ++ item x ∷ [] in
+          let more = handed bs r s js o (passed bs is (w .0) x r (w .1)) n p y m e h in
+          let past = past-rows (w .0) (x .mark) (r .phase) (w .1 .onto) (w .2) in (
             r .phase,
             more,
             late-row (r .phase) (y .mark) (s .phase) past (more .onto),
             taken-still blank c (calls Rows js) (closing (r .phase) (y .mark)) (closed-once (r .phase) (y .mark) past) waiting-taken,
           )
+
+      pub waiting-more : (y : Option Record) → Moved r o s → s .file .now ≡ r .file .now → o ≡ Ok y → Waiting bs s y c
+      waiting-more y m e h = (is ++ item x ∷ [], before-more y m e h)

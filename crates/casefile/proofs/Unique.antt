@@ -10,7 +10,6 @@ use Rattle.std.specs.declared.result.Result.{Result}
 use Rattle.std.specs.declared.result.Result.the-variants.{Ok, Err}
 use Rattle.records.specs.declared.mark.Phase.{Phase}
 use Rattle.records.specs.declared.mark.Phase.the-variants.{Rows}
-use Rattle.records.specs.Format.{leads}
 use Rattle.records.specs.Grammar.{Item, encode, file, Led, Outcome, Next}
 use Rattle.records.proofs.Marks.{item-one}
 use Rattle.records.proofs.Unique.{next-one, may-stand}

@@ -1,6 +1,6 @@
 -- What the parts of the reading answer. Assumes nothing.
 use mathlib.Core.Path.{_≡_}
-use mathlib.Core.Bool.{Bool, true, false, cond}
+use mathlib.Core.Bool.{false, cond}
 use mathlib.Core.List.{List, [], _∷_, _++_}
 use Prim.Native.Nat.{ℕ}
 use lib.ListN.{length}
@@ -22,7 +22,7 @@ use Rattle.sheet.specs.Book.{Book, blank, refusal, after}
 use Rattle.casefile.specs.declared.fault.Cause.{Cause}
 use Rattle.casefile.specs.declared.fault.Cause.the-variants.{Sheet}
 use Rattle.casefile.specs.declared.fault.Fault.{Fault}
-use Rattle.casefile.specs.Calls.{call-of, listed, calls, Taken}
+use Rattle.casefile.specs.Calls.{call-of, calls, Taken}
 use Rattle.casefile.specs.Files.{Faulty}
 
 -- a cause with its place

@@ -68,7 +68,7 @@ fn add(sheet: &mut OpenSheet, item: Record) -> Result<bool, Cause>
 }
 
 // Lays the edge that a record gives; a question and the end give none.
-fn lay(sheet: &mut ClosedSheet, item: Record) -> Result<(), Cause>
+pub(crate) fn lay(sheet: &mut ClosedSheet, item: Record) -> Result<(), Cause>
     requires { ⌜ length (item .body .now) ≡ size (item .mark) ⌝ ∗ ⌜ is-row (item .mark) ≡ false ⌝ }
     ensures { λ r. ⌜ Asked (closed-book (now (sheet .entry))) (call-of (item .entry .mark) (item .entry .body .now)) tt r (closed-book (now (sheet .exit))) ⌝ }
 {
@@ -95,7 +95,7 @@ fn lay(sheet: &mut ClosedSheet, item: Record) -> Result<(), Cause>
 }
 
 // Adds threads and events up to the first other record, and hands that out.
-fn take_rows<'a>(
+pub(crate) fn take_rows<'a>(
     reader: &mut Reader<'a>,
     sheet: &mut OpenSheet,
 ) -> Result<Option<Record<'a>>, Fault>

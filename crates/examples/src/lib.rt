@@ -1,6 +1,7 @@
 // Small examples of the lower layers, run as tests.
 #[cfg(test)]
 mod tests {
+    use casefile::case::Case;
     use closure::Count;
     use closure::CountDebug;
     use closure::CountPartialEq;
@@ -14,6 +15,8 @@ mod tests {
     use records::fault::CauseDebug;
     use records::fault::CausePartialEq;
     use records::fault::Fault;
+    use records::mark::Mark;
+    use records::mark::Record;
     use records::survey::survey;
     use relation::Relation;
     use std::test::*;
@@ -58,6 +61,23 @@ mod tests {
                 check_eq(cause, Cause::LateRow)?;
                 check_eq(place, 8)
             }
+        }
+    }
+    // The rows are read at once; then the question comes, and then the end.
+    #[test]
+    fn a_question_is_handed_out() -> Result<(), Fail> {
+        let mut case = Case::new(b"TH\x00\x00QU\x00\x00\x00\x00EN");
+        match case.next() {
+            Ok(
+                Some(
+                    Record {
+                        mark: Mark::Question,
+                        body: _,
+                        place,
+                    },
+                ),
+            ) => check_eq(place, 4),
+            _ => Err(Fail::new("no question came")),
         }
     }
 }
