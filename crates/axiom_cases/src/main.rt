@@ -1,5 +1,7 @@
 // Tells the relation of every axiom of every model for many sheets. The case files come one after another, each behind its
 // length in two bytes, low byte first. What it prints is compared with what an independent reader of the rules says.
+#![tactic(auto)]
+
 use casefile::input::read;
 use execution::execution::Execution;
 use model::interface::Model;

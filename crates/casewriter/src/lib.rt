@@ -1,4 +1,6 @@
 // A closed sheet written as a case file, at the front of the caller's memory.
+#![tactic(auto)]
+
 ghost use Rattle.std.specs.Prelude.{◌≡◌, ℕ, ◌+◌, ◌*◌, ◌<◌, ◌≤◌, map, length, take, IfOk, Ok};
 ghost use Rattle.relation.specs.Meaning.{holds};
 ghost use Rattle.records.specs.Grammar.{encode, file as bytes};

@@ -1,13 +1,14 @@
 // The closure of a table of steps: what all chains of at most 64 steps come to, for every kind of step whose joining
 // and chaining keep the laws of `Laws`.
+#![tactic(auto)]
+
 ghost use Rattle.std.specs.Prelude.{◌≡◌, ℕ, ◌+◌, ◌*◌, ◌<◌, ◌≤◌, true, false, ◌&&◌, ◌||◌, ◌⊎◌, length, Ok, Err};
 ghost use Rattle.closure.specs.declared.Misfit.{Misfit as Reason};
 ghost use Rattle.closure.specs.Kinds.{no_steps, fewer, further};
 ghost use Rattle.closure.specs.Fitting.{fitting};
 ghost use Rattle.closure.specs.Ways.{Reaches, Single, Measures};
 ghost use Rattle.closure.specs.Steps.{Laws, Relaxed, Swept, Closed};
-ghost use Rattle.std.proofs.Common.{rules};
-ghost use Rattle.closure.specs.KindLaws.{count_laws};
+ghost use Rattle.closure.specs.KindLaws.{reach_laws, count_laws};
 
 // One kind of step. `join` makes one value of two ways from an event to another, `chain` one of a step and the step
 // after it, and `none` is the absence of a step.
@@ -46,7 +47,7 @@ pub enum Misfit {
 // Joins to each entry (i, j) of row i the way over k.
 fn relax<S: Step + Copy>(steps: &mut [S], n: usize, k: usize, i: usize)
     requires { (n ≤ 64) × ((n * n ≤ length steps.old) × ((k < n) × (i < n))) }
-    ensures { Relaxed none join chain n k i steps.old steps.new n }
+    ensures { Relaxed S.none S.join S.chain n k i steps.old steps.new n }
 {
     let via = steps[i * n + k];
     for j in 0..n {
@@ -62,7 +63,7 @@ fn sweep<S: Step + Copy>(steps: &mut [S], n: usize, k: usize, low: usize, high: 
     requires room { (n ≤ 64) × ((n * n ≤ length steps.old) × (k < n)) }
     requires rows { (low ≤ high) × (high ≤ n) }
     requires apart { (k < low) ⊎ (high ≤ k) }
-    ensures { Swept none join chain n k low steps.old steps.new high }
+    ensures { Swept S.none S.join S.chain n k low steps.old steps.new high }
 {
     for i in low..high {
         relax(steps, n, k, i);
@@ -73,7 +74,7 @@ fn sweep<S: Step + Copy>(steps: &mut [S], n: usize, k: usize, low: usize, high: 
 // more than 64 rows or a slice too short for it is refused, and then nothing is altered.
 pub fn close<S: Step + Copy>(steps: &mut [S], n: usize) -> Result<(), Misfit>
     ensures answer { result ≡ fitting n (length steps.old) }
-    ensures closed { result ≡ Ok tt → Closed none join chain n steps.old steps.new }
+    ensures closed { result ≡ Ok tt → Closed S.none S.join S.chain n steps.old steps.new }
     ensures refused { (why : Reason) → result ≡ Err why → steps.new ≡ steps.old }
 {
     if n > ROWS {
@@ -98,7 +99,7 @@ impl Step for bool {
 
     ghost chain = { ◌&&◌ };
 
-    ghost lawful = { Prim.search rules };
+    ghost lawful = { reach_laws };
 
     fn none() -> bool {
         false

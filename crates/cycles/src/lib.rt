@@ -1,4 +1,6 @@
 // The witness of a cyclic relation: of its shortest cycles, the first in lexicographic order.
+#![tactic(auto)]
+
 ghost use Rattle.std.specs.Prelude.{◌≡◌, ◌<◌, ◌≤◌, true, length};
 ghost use Rattle.relation.specs.Meaning.{holds};
 ghost use Rattle.cycles.specs.Cycles.{Answered, Unique, FoundStepwise, CyclesAreChains};

@@ -1,4 +1,6 @@
 // Small examples of the lower layers, run as tests.
+#![tactic(auto)]
+
 #[cfg(test)]
 mod tests {
     use casefile::case::Case;

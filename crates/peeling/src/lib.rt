@@ -1,4 +1,6 @@
 // Whether a relation has a cycle, by peeling: an event without a successor among the events left lies on none.
+#![tactic(auto)]
+
 ghost use Rattle.std.specs.Prelude.{Decides};
 ghost use Rattle.relation.specs.Meaning.{members, holds};
 ghost use Rattle.peeling.specs.Peeling.{Cyclic, Peeled};

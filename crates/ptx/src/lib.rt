@@ -1,4 +1,6 @@
 // The PTX memory model, plain and with proxies, as one text.
+#![tactic(auto)]
+
 pub mod basis;
 pub mod crossing;
 pub mod flavour;

@@ -1,5 +1,7 @@
 // Closes random tables of steps and tells what comes out, a line for each table. `tools/tables.py` draws the same
 // tables, finds the same in another way, and writes the file `stdout` that this program is held to.
+#![tactic(auto)]
+
 use closure::{Count, Misfit, distances, reach};
 use cycles::shortest_cycle;
 use relation::Relation;

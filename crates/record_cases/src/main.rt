@@ -1,5 +1,7 @@
 // Answers many small files, given one after another, each behind its length in two bytes, low byte first. What it prints is
 // compared with what an independent splitter of records says of the same files.
+#![tactic(auto)]
+
 use records::survey::survey;
 use std::io;
 use std::io::Read;

@@ -67,7 +67,7 @@ union_then r s t =
 abbrev pub Least : ℕ → Set → ℕ → Type 0
 Least n p k = (k < n) × (p k ≡ true) × ((j : ℕ) → j < k → p j ≡ false)
 
--- what least-below answers
+-- what `least_below` answers
 abbrev pub LeastOr : ℕ → Set → Option ℕ → Type 0
 LeastOr n p (Some k) = Least n p k
 LeastOr n p None = (k : ℕ) → k < n → p k ≡ false

@@ -1,5 +1,7 @@
 // Sets of events and relations on them. An event is a number from 0 to 63; any other number is in no set and related to
 // nothing, and adding it alters nothing.
+#![tactic(auto)]
+
 ghost use Rattle.std.specs.Prelude.{◌≡◌, ℕ, ◌<◌, ◌≤◌, min, Bool, false, not, length};
 ghost use Rattle.closure.specs.Steps.{table};
 ghost use Rattle.relation.specs.Algebra.{none, nothing, everything, below, single, either, both, except, only_if, some_below, least_below, image, range, domain, column, inverse, plus, cut, lowest_loop, lowest_pair, pair, ◌∪◌, ◌∩◌, ◌∖◌, ◌⨾◌, ◌◁◌, ◌▷◌};
@@ -392,7 +394,7 @@ pub trait Pairs {
 // The events below `n` that `p` relates `i` to, if `i` is below `n` too.
 fn tabulate_row<P: Pairs>(p: &P, i: usize, n: usize) -> Row
     requires { n ≤ 64 }
-    ensures { members result ≡ cut n (relates p.now) i }
+    ensures { members result ≡ cut n (P.relates p.now) i }
 {
     if i >= n {
         return Row::empty();
@@ -406,7 +408,7 @@ fn tabulate_row<P: Pairs>(p: &P, i: usize, n: usize) -> Row
 
 // The pairs of events below `n` that `p` relates; of all events where `n` is 64 or more.
 pub fn tabulate<P: Pairs>(p: &P, n: usize) -> Relation
-    ensures { holds result ≡ cut (min n 64) (relates p.now) }
+    ensures { holds result ≡ cut (min n 64) (P.relates p.now) }
 {
     let events = if n < EVENTS { n } else { EVENTS };
     let mut rows = [Row { bits: 0 }; EVENTS];

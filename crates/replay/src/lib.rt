@@ -1,4 +1,6 @@
 // Gives a new sheet the calls of a list, one after another, and tells what they come to.
+#![tactic(auto)]
+
 pub mod answers;
 mod closing;
 mod opening;

@@ -26,25 +26,23 @@ module _ (s : ClosedSheet) (e : Edge) (i j : ℕ) where
       and_from _ _ k.0 (and_from _ _ k.1 (and_from _ _ (not-false (carries es e i j) p.3) (ap not p.4)))
 
   pub facts_laid : refusal (closed_book s) (Lay e i j) ≡ None → (t : Edges) → laid t ≡ with_edge (laid s.edges) e i j
-      → EdgesFit (closed_book s).events (laid t) × (OneSource (laid t) × (OneWay (laid t) × Unit {0}))
+      → record { edges_fit : EdgesFit (closed_book s).events (laid t); one_source : OneSource (laid t); one_way : OneWay (laid t) }
   unfolding cannot_carry there
   facts_laid h t q =
       let es = (closed_book s).events in
-      let p = passed (closed_book s) (Lay e i j) h in (
-        subst (EdgesFit es) (sym q) (fit_laid es (laid s.edges) e i j s.edges_fit (accepted_fits h)),
-        (
-          subst OneSource (sym q) (source_laid (laid s.edges) e i j p.5 (λ x y r. holds_first s.edges.read_from x y r) s.one_source),
-          (subst OneWay (sym q) (way_laid (laid s.edges) e i j p.5 s.one_way (order_apart es e i j (not-false _ p.3))), tt),
-        ),
-      )
+      let p = passed (closed_book s) (Lay e i j) h in
+      record {
+        edges_fit = subst (EdgesFit es) (sym q) (fit_laid es (laid s.edges) e i j s.edges_fit (accepted_fits h));
+        one_source = subst OneSource (sym q) (source_laid (laid s.edges) e i j p.5 (λ x y r. holds_first s.edges.read_from x y r) s.one_source);
+        one_way = subst OneWay (sym q) (way_laid (laid s.edges) e i j p.5 s.one_way (order_apart es e i j (not-false _ p.3)));
+      }
 
   pub facts_undone : (t : Edges) → laid t ≡ without_edge (laid s.edges) e i j
-      → EdgesFit (closed_book s).events (laid t) × (OneSource (laid t) × (OneWay (laid t) × Unit {0}))
+      → record { edges_fit : EdgesFit (closed_book s).events (laid t); one_source : OneSource (laid t); one_way : OneWay (laid t) }
   facts_undone t q =
-      let es = (closed_book s).events in (
-        subst (EdgesFit es) (sym q) (fit_undone es (laid s.edges) e i j s.edges_fit),
-        (
-          subst OneSource (sym q) (source_undone (laid s.edges) e i j s.one_source),
-          (subst OneWay (sym q) (way_undone (laid s.edges) e i j s.one_way), tt),
-        ),
-      )
+      let es = (closed_book s).events in
+      record {
+        edges_fit = subst (EdgesFit es) (sym q) (fit_undone es (laid s.edges) e i j s.edges_fit);
+        one_source = subst OneSource (sym q) (source_undone (laid s.edges) e i j s.one_source);
+        one_way = subst OneWay (sym q) (way_undone (laid s.edges) e i j s.one_way);
+      }

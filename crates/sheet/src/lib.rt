@@ -1,5 +1,7 @@
 // Sheets: candidate executions with their threads, events and edges. An open sheet takes threads and events, a closed one
 // edges; each call is accepted, or refused by a number and without effect.
+#![tactic(auto)]
+
 pub mod calls;
 pub mod closed;
 pub mod edges;

@@ -1,5 +1,7 @@
 // Answers many case files, given one after another, each behind its length in two bytes, low byte first. What it prints is
 // compared with what an independent reader says of the same files.
+#![tactic(auto)]
+
 use casefile::fault::Fault;
 use casefile::input::read;
 use records::survey::survey;

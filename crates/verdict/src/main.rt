@@ -1,4 +1,6 @@
 // Reads a case file from standard input and prints what it has, or its first fault.
+#![tactic(auto)]
+
 ghost use Rattle.std.specs.Prelude.{◌≡◌};
 ghost use Rattle.verdict.specs.Answer.{Answers};
 

@@ -1,6 +1,8 @@
 // What breaks an axiom: its relation must be acyclic, irreflexive or empty. A violation is a list of events: the events of a
 // cycle in order; one event that is related to itself; two related events. The witness is the shortest violation, and among
 // those the first in lexicographic order.
+#![tactic(auto)]
+
 ghost use Rattle.std.specs.Prelude.{◌≡◌, ℕ, ◌<◌, [], ◌∷◌, length, Decides};
 ghost use Rattle.relation.specs.Meaning.{holds};
 ghost use Rattle.violation.specs.Violations.{Breaks, Answered, Unique, SpelledOut};

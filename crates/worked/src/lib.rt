@@ -1,4 +1,6 @@
 // Small sheets worked by hand.
+#![tactic(auto)]
+
 ghost use Rattle.worked.specs.Sheets.{Worked};
 
 // The verdicts of eleven small sheets, and of a few more that shut out what is easily misread, proved of the definitions of the

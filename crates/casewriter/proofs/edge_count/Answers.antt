@@ -13,8 +13,8 @@ loop-i-preserved c =
       λ k.
           let e = ap length (sym (edges_next k R n i)) ∙ length-append (edge_items k R n i) (map (edge_item k i) (picked (R i) n)) in
           let m = length-map (picked (R i) n) (edge_item k i) in
-          omega (arith, c.loop-i.invariant.0 k, c.row-count-count.ensures.count),
-      omega (arith, c.loop-i.invariant.1, c.row-count-count.ensures.few),
+          omega (arith, c.loop-i.invariant.0 k, c.row_count-count.ensures.count),
+      omega (arith, c.loop-i.invariant.1, c.row_count-count.ensures.few),
     )
 
 pub returns : goal.returns

@@ -11,6 +11,6 @@ returns c =
     record {
       end = refl;
       room = c.requires;
-      after = put_mid-paste a _ o _ b (length b) c.copy-from-slice.ensures.after (omega arith) refl
+      after = put_mid-paste a _ o _ b (length b) c.copy_from_slice.ensures.after (omega arith) refl
           ∙ append_assoc (take a o) (take (length b) b) (drop (a + length b) o) ∙ ap (λ (l : List ℕ). take a o ++ (l ++ drop (a + length b) o)) (take_all (length b) b (omega arith));
     }

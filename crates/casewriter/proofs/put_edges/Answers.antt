@@ -10,8 +10,8 @@ use Rattle.casewriter.proofs.put_edges.Goals as goal
 pub loop-i-init : goal.loop-i-init
 loop-i-init c = put_none c.args.out.now c.args.from (omega (arith, c.requires.room))
 
-pub put-row-at-requires : goal.put-row-at-requires
-put-row-at-requires c =
+pub put_row-at-requires : goal.put_row-at-requires
+put_row-at-requires c =
     let R = holds c.args.r.now in
     let k = c.args.edge in
     let n = c.args.n in
@@ -29,5 +29,5 @@ loop-i-preserved c =
     let k = c.args.edge in
     let n = c.args.n in
     let i = c.loop-i.i in
-    subst (λ (l : List ℕ). Put c.args.out.now c.args.from l c.put-row-at.result c.put-row-at.new.out)
-    (sym (joined_append (edge_items k R n i) (map (edge_item k i) (picked (R i) n))) ∙ ap file (edges_next k R n i)) (put_more c.loop-i.invariant c.put-row-at.ensures)
+    subst (λ (l : List ℕ). Put c.args.out.now c.args.from l c.put_row-at.result c.put_row-at.new.out)
+    (sym (joined_append (edge_items k R n i) (map (edge_item k i) (picked (R i) n))) ∙ ap file (edges_next k R n i)) (put_more c.loop-i.invariant c.put_row-at.ensures)

@@ -9,8 +9,8 @@ use Rattle.casewriter.proofs.put_events.Goals as goal
 pub loop-i-init : goal.loop-i-init
 loop-i-init c = put_none c.args.out.now c.args.from (omega (arith, c.requires))
 
-pub put-event-at-requires : goal.put-event-at-requires
-put-event-at-requires c =
+pub put_event-at-requires : goal.put_event-at-requires
+put_event-at-requires c =
     let xs = c.args.events.now in
     let l = events_length (take c.loop-i.i xs) in
     let w = events_length xs in
@@ -19,8 +19,8 @@ put-event-at-requires c =
 
 pub loop-i-preserved : goal.loop-i-preserved
 loop-i-preserved c =
-    subst (λ (l : List ℕ). Put c.args.out.now c.args.from l c.put-event-at.result c.put-event-at.new.out)
-    (rows_more event_item c.args.events.now c.loop-i.i _ (omega arith)) (put_more c.loop-i.invariant c.put-event-at.ensures)
+    subst (λ (l : List ℕ). Put c.args.out.now c.args.from l c.put_event-at.result c.put_event-at.new.out)
+    (rows_more event_item c.args.events.now c.loop-i.i _ (omega arith)) (put_more c.loop-i.invariant c.put_event-at.ensures)
 
 pub returns : goal.returns
 returns c =

@@ -10,8 +10,8 @@ use Rattle.casewriter.proofs.put_row.Goals.{then_has, else-has}
 pub loop-j-init : goal.loop-j-init
 loop-j-init c = put_none c.args.out.now c.args.from (omega (arith, c.requires.room))
 
-pub put-edge-at-requires : goal.put-edge-at-requires
-put-edge-at-requires c =
+pub put_edge-at-requires : goal.put_edge-at-requires
+put_edge-at-requires c =
     let f = holds c.args.r.now c.args.i in
     let j = c.loop-j.j in
     let l = row_length c.args.edge c.args.i (picked f j) in
@@ -27,6 +27,6 @@ loop-j-preserved c =
     let j = c.loop-j.j in
     elim c.if-has.branch [
       | then_has w ↦ moved (joined_snoc (map (edge_item k i) (picked f j)) (edge_item k i j) ∙ ap file (sym (map_push (edge_item k i) (picked f j) j) ∙ ap (map (edge_item k i)) (sym (picked_yes f j (sym c.has.ensures ∙ w.if-has.true)))))
-          (sym w.at-is) (sym w.out-is) (put_more c.loop-j.invariant w.put-edge-at.ensures)
+          (sym w.at-is) (sym w.out-is) (put_more c.loop-j.invariant w.put_edge-at.ensures)
       | else-has w ↦ moved (ap (λ (l : List ℕ). file (map (edge_item k i) l)) (sym (picked_no f j (sym c.has.ensures ∙ w.if-has.false)))) (sym w.at-is) (sym w.out-is) c.loop-j.invariant
     ]

@@ -6,8 +6,8 @@ use Rattle.casewriter.specs.Written.{Put}
 use Rattle.casewriter.proofs.Writing.{sort_is}
 use Rattle.casewriter.proofs.put_sort.Goals as goal
 
-pub put-edges-requires : goal.put-edges-requires
-put-edges-requires c =
+pub put_edges-requires : goal.put_edges-requires
+put_edges-requires c =
     let b = closed_book c.args.sheet.now in
     let k = c.args.edge in
     let r = c.args.sheet.now.rows in
@@ -20,4 +20,4 @@ returns c =
     let b = closed_book c.args.sheet.now in
     let k = c.args.edge in
     let is = sort_is b k _ _ (c.of-r.ensures ∙ ap (λ (q : EdgeSets). q k) c.edges.ensures) (ap length c.events.ensures) in
-    subst (λ (is : List Item). Put c.args.out.now c.args.from (file is) c.put-edges.result c.put-edges.new.out) is c.put-edges.ensures
+    subst (λ (is : List Item). Put c.args.out.now c.args.from (file is) c.put_edges.result c.put_edges.new.out) is c.put_edges.ensures

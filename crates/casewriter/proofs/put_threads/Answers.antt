@@ -6,8 +6,8 @@ use Rattle.casewriter.specs.Written.{Put}
 use Rattle.casewriter.proofs.Writing.{put_none, put_more, moved, rows_more, threads_length}
 use Rattle.casewriter.proofs.put_threads.Goals as goal
 
-pub put-thread-at-requires : goal.put-thread-at-requires
-put-thread-at-requires c =
+pub put_thread-at-requires : goal.put_thread-at-requires
+put_thread-at-requires c =
     let xs = c.args.threads.now in
     let l = threads_length (take c.loop-i.i xs) in
     let w = threads_length xs in
@@ -16,8 +16,8 @@ put-thread-at-requires c =
 
 pub loop-i-preserved : goal.loop-i-preserved
 loop-i-preserved c =
-    subst (λ (l : List ℕ). Put c.args.out.now 0 l c.put-thread-at.result c.put-thread-at.new.out)
-    (rows_more thread_item c.args.threads.now c.loop-i.i _ (omega arith)) (put_more c.loop-i.invariant c.put-thread-at.ensures)
+    subst (λ (l : List ℕ). Put c.args.out.now 0 l c.put_thread-at.result c.put_thread-at.new.out)
+    (rows_more thread_item c.args.threads.now c.loop-i.i _ (omega arith)) (put_more c.loop-i.invariant c.put_thread-at.ensures)
 
 pub returns : goal.returns
 returns c =

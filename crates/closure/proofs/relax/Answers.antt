@@ -4,26 +4,26 @@ use Rattle.closure.proofs.Places.{within}
 use Rattle.closure.proofs.Loops.{relaxed_none, relaxed_more}
 use Rattle.closure.proofs.relax.Goals as goal
 
-pub offset-bounds-steps-i : goal.offset-bounds-steps-i
-offset-bounds-steps-i g c = let h : c.args.i * c.args.n + c.args.k < length c.args.steps.now = within c.args.n c.args.i c.args.k _ (omega arith) (omega arith) (omega arith) in search rules
+pub offset_bounds-steps-i : goal.offset_bounds-steps-i
+offset_bounds-steps-i g c = let h : c.args.i * c.args.n + c.args.k < length c.args.steps.now = within c.args.n c.args.i c.args.k _ (omega arith) (omega arith) (omega arith) in search rules
 
 pub bounds-steps-i : goal.bounds-steps-i
 bounds-steps-i g c = within c.args.n c.args.i c.args.k _ (omega arith) (omega arith) (omega arith)
 
-pub offset-bounds-steps-k : goal.offset-bounds-steps-k
-offset-bounds-steps-k g c = let h : c.args.k * c.args.n + c.loop-j.j < length c.args.steps.now = within c.args.n c.args.k c.loop-j.j _ (omega arith) (omega arith) (omega arith) in search rules
+pub offset_bounds-steps-k : goal.offset_bounds-steps-k
+offset_bounds-steps-k g c = let h : c.args.k * c.args.n + c.loop-j.j < length c.args.steps.now = within c.args.n c.args.k c.loop-j.j _ (omega arith) (omega arith) (omega arith) in search rules
 
 pub bounds-steps-k : goal.bounds-steps-k
 bounds-steps-k g c = within c.args.n c.args.k c.loop-j.j _ (omega arith) (omega arith) (omega arith)
 
-pub offset-bounds-steps-at : goal.offset-bounds-steps-at
-offset-bounds-steps-at g c = let h : c.args.i * c.args.n + c.loop-j.j < length c.args.steps.now = within c.args.n c.args.i c.loop-j.j _ (omega arith) (omega arith) (omega arith) in search rules
+pub offset_bounds-steps-at : goal.offset_bounds-steps-at
+offset_bounds-steps-at g c = let h : c.args.i * c.args.n + c.loop-j.j < length c.args.steps.now = within c.args.n c.args.i c.loop-j.j _ (omega arith) (omega arith) (omega arith) in search rules
 
 pub bounds-steps-at : goal.bounds-steps-at
 bounds-steps-at g c = within c.args.n c.args.i c.loop-j.j _ (omega arith) (omega arith) (omega arith)
 
-pub offset-bounds-steps-at-in-loop-j : goal.offset-bounds-steps-at-in-loop-j
-offset-bounds-steps-at-in-loop-j g c = let h : c.args.i * c.args.n + c.loop-j.j < length c.args.steps.now = within c.args.n c.args.i c.loop-j.j _ (omega arith) (omega arith) (omega arith) in search rules
+pub offset_bounds-steps-at-in-loop-j : goal.offset_bounds-steps-at-in-loop-j
+offset_bounds-steps-at-in-loop-j g c = let h : c.args.i * c.args.n + c.loop-j.j < length c.args.steps.now = within c.args.n c.args.i c.loop-j.j _ (omega arith) (omega arith) (omega arith) in search rules
 
 pub bounds-steps-at-in-loop-j : goal.bounds-steps-at-in-loop-j
 bounds-steps-at-in-loop-j g c = within c.args.n c.args.i c.loop-j.j _ (omega arith) (omega arith) (omega arith)

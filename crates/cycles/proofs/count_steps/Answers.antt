@@ -6,7 +6,7 @@ use Rattle.cycles.proofs.count_steps.Goals as goal
 
 pub returns : goal.returns
 returns c =
-    let s = c.single-steps.ensures in
+    let s = c.single_steps.ensures in
     let done : c.distances.result ≡ Ok tt = c.distances.ensures.answer ∙ fits 64 _ (omega arith) (omega arith) in
-    counted (holds c.args.r.now) (holds_inside c.args.r.now) c.single-steps.new.steps s c.distances.new.steps
-    (c.distances.ensures.measures done (stepped_single (holds c.args.r.now) (holds_inside c.args.r.now) c.single-steps.new.steps s))
+    counted (holds c.args.r.now) (holds_inside c.args.r.now) c.single_steps.new.steps s c.distances.new.steps
+    (c.distances.ensures.measures done (stepped_single (holds c.args.r.now) (holds_inside c.args.r.now) c.single_steps.new.steps s))

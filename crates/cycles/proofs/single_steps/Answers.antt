@@ -8,4 +8,4 @@ loop-p-preserved c =
     below_more _ _
     (λ k h. let ne : k ≢ c.loop-p.p = omega arith in rw get_or-set_other (c.loop-p.invariant k h))
     (let lt : c.loop-p.p < length c.loop-p.steps = omega arith in
-    get_or-set_same c.loop-p.steps c.loop-p.p c.step-if.result Never lt ∙ c.step-if.ensures ∙ ap step_if c.has.ensures)
+    get_or-set_same c.loop-p.steps c.loop-p.p c.step_if.result Never lt ∙ c.step_if.ensures ∙ ap step_if c.has.ensures)

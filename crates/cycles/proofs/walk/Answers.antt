@@ -10,8 +10,8 @@ loop-i-init c =
     walked_one (holds c.args.r.now) (holds_inside c.args.r.now) (apart c.args.steps.now) c.requires.counted
     c.args.start c.args.len c.args.memory.now (omega arith) (omega arith) c.requires.closes
 
-pub overflow-cast-memory-in-loop-i : goal.overflow-cast-memory-in-loop-i
-overflow-cast-memory-in-loop-i c =
+pub overflow_cast-memory-in-loop-i : goal.overflow_cast-memory-in-loop-i
+overflow_cast-memory-in-loop-i c =
     omega (
       arith,
       next_found (holds c.args.r.now) (holds_inside c.args.r.now) (apart c.args.steps.now) c.requires.counted

@@ -17,7 +17,7 @@ pub returns : goal.returns
 returns c =
     let R = holds c.args.rel.now in
     let live = c.peel.new.live in
-    let e : not c.is-empty.result ≡ some_below 64 (members live) = ap not c.is-empty.ensures.is ∙ not_not (some_below 64 (members live)) in (
+    let e : not c.is_empty.result ≡ some_below 64 (members live) = ap not c.is_empty.ensures.is ∙ not_not (some_below 64 (members live)) in (
       λ t.
           let w = from_some 64 (members live) (sym e ∙ t) in
           cycle_in R (members live) (members_below live) (λ a h. c.peel.ensures.leads c.loop-test.false a (omega arith) h) w.0 w.2,

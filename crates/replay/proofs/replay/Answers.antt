@@ -14,36 +14,36 @@ pub returns-then-n-calls : goal.returns-then-n-calls
 unfolding ended
 returns-then-n-calls c =
     let cs = c.args.calls.now in
-    let n = c.in-ok-n.n in
-    let b = open_book c.run-open.new.sheet in
-    let xs = vec_items c.run-open.new.answers in
+    let n = c.in_ok-n.n in
+    let b = open_book c.run_open.new.sheet in
+    let xs = vec_items c.run_open.new.answers in
     record {
-      law = begin cs _ b _ xs n _ c.new-sheet.ensures c.new-answers.ensures.items c.in-ok-n.ensures.0 (halts_end cs b xs n c.if-n-calls.true);
+      law = begin cs _ b _ xs n _ c.new-sheet.ensures c.new-answers.ensures.items c.in_ok-n.ensures.0 (halts_end cs b xs n c.if-n-calls.true);
       sheet = refl;
     }
 
-pub returns-in-ok-whole : goal.returns-in-ok-whole
+pub returns-in_ok-whole : goal.returns-in_ok-whole
 unfolding place
-returns-in-ok-whole c =
+returns-in_ok-whole c =
     let cs = c.args.calls.now in
-    let n = c.in-ok-n.n in
-    let b = open_book c.run-open.new.sheet in
-    let xs = vec_items c.run-open.new.answers in
+    let n = c.in_ok-n.n in
+    let b = open_book c.run_open.new.sheet in
+    let xs = vec_items c.run_open.new.answers in
     let d = closed_book c.close-closed.result in
     let g = goes_one cs b xs n (Thread 0 0) Close Done d c.if-n-calls.false c.in-Close.is refl (close_answer b) c.close-closed.ensures in
-    let g' : Goes cs b xs n d (vec_items c.push.new.self) (n + 1) = rw c.in-ok-push.ensures.items g in
-    let h = c.in-ok-whole.ensures in
-    record { law = begin cs _ b _ xs n _ c.new-sheet.ensures c.new-answers.ensures.items c.in-ok-n.ensures.0 (g' ∙ h.0); sheet = h.1 }
+    let g' : Goes cs b xs n d (vec_items c.push.new.self) (n + 1) = rw c.in_ok-push.ensures.items g in
+    let h = c.in_ok-whole.ensures in
+    record { law = begin cs _ b _ xs n _ c.new-sheet.ensures c.new-answers.ensures.items c.in_ok-n.ensures.0 (g' ∙ h.0); sheet = h.1 }
 
-pub returns-in-default : goal.returns-in-default
+pub returns-in_default : goal.returns-in_default
 unfolding ended
-returns-in-default c =
+returns-in_default c =
     let cs = c.args.calls.now in
-    let n = c.in-ok-n.n in
-    let b = open_book c.run-open.new.sheet in
-    let xs = vec_items c.run-open.new.answers in
-    let e = c.in-ok-n.ensures in
+    let n = c.in_ok-n.n in
+    let b = open_book c.run_open.new.sheet in
+    let xs = vec_items c.run_open.new.answers in
+    let e = c.in_ok-n.ensures in
     let l = c.if-n-calls.false in
     let a = ap adds (get_or_default cs n (Thread 0 0) End l) ∙ e.1 l in
-    let p = out_of_open c.run-open.new.sheet _ a c.in-default.not-Close in
+    let p = out_of_open c.run_open.new.sheet _ a c.in_default.not-Close in
     record { law = begin cs _ b _ xs n _ c.new-sheet.ensures c.new-answers.ensures.items e.0 (halts_out cs b xs n (Thread 0 0) l p); sheet = refl }

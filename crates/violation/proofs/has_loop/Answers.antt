@@ -7,4 +7,4 @@ use Rattle.violation.proofs.has_loop.Goals as goal
 
 pub returns : goal.returns
 returns c =
-    subst (λ (t : Bool). Decides t (Breaks Irreflexive (holds c.args.rel.now))) (sym c.is-some.ensures) (loop_decides (holds c.args.rel.now) c.lowest-loop.result c.lowest-loop.ensures.lowest)
+    subst (λ (t : Bool). Decides t (Breaks Irreflexive (holds c.args.rel.now))) (sym c.is_some.ensures) (loop_decides (holds c.args.rel.now) c.lowest_loop.result c.lowest_loop.ensures.lowest)

@@ -7,4 +7,4 @@ use Rattle.violation.proofs.has_pair.Goals as goal
 
 pub returns : goal.returns
 returns c =
-    subst (λ (t : Bool). Decides t (Breaks Empty (holds c.args.rel.now))) (sym c.is-some.ensures) (pair_decides (holds c.args.rel.now) c.lowest-pair.result c.lowest-pair.ensures.lowest)
+    subst (λ (t : Bool). Decides t (Breaks Empty (holds c.args.rel.now))) (sym c.is_some.ensures) (pair_decides (holds c.args.rel.now) c.lowest_pair.result c.lowest_pair.ensures.lowest)

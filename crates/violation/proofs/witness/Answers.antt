@@ -7,14 +7,14 @@ pub returns-in-Acyclic : goal.returns-in-Acyclic
 returns-in-Acyclic c =
     record {
       answered =
-          of_kind (holds c.args.rel.now) c.args.memory.now c.shortest-cycle.new.memory c.shortest-cycle.result c.in-Acyclic.is
-          (cycle_answered (holds c.args.rel.now) c.args.memory.now c.shortest-cycle.new.memory c.shortest-cycle.result c.shortest-cycle.ensures.witness);
+          of_kind (holds c.args.rel.now) c.args.memory.now c.shortest_cycle.new.memory c.shortest_cycle.result c.in-Acyclic.is
+          (cycle_answered (holds c.args.rel.now) c.args.memory.now c.shortest_cycle.new.memory c.shortest_cycle.result c.shortest_cycle.ensures.witness);
       unique = unique;
       spelled = spelled_out;
     }
 
 pub returns-in-Irreflexive : goal.returns-in-Irreflexive
-returns-in-Irreflexive c = record { answered = of_kind (holds c.args.rel.now) c.args.memory.now c.loop-witness.last.memory c.loop-witness.result c.in-Irreflexive.is c.loop-witness.ensures; unique = unique; spelled = spelled_out }
+returns-in-Irreflexive c = record { answered = of_kind (holds c.args.rel.now) c.args.memory.now c.loop_witness.last.memory c.loop_witness.result c.in-Irreflexive.is c.loop_witness.ensures; unique = unique; spelled = spelled_out }
 
 pub returns-in-Empty : goal.returns-in-Empty
-returns-in-Empty c = record { answered = of_kind (holds c.args.rel.now) c.args.memory.now c.pair-witness.new.memory c.pair-witness.result c.in-Empty.is c.pair-witness.ensures; unique = unique; spelled = spelled_out }
+returns-in-Empty c = record { answered = of_kind (holds c.args.rel.now) c.args.memory.now c.pair_witness.new.memory c.pair_witness.result c.in-Empty.is c.pair_witness.ensures; unique = unique; spelled = spelled_out }

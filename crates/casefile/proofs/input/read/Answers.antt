@@ -8,16 +8,16 @@ use Rattle.casefile.proofs.Unique.{reads_one}
 use Rattle.casefile.proofs.input.read.Goals as goal
 use Rattle.casefile.proofs.input.read.Goals.{InSome}
 
-pub returns-in-err-next : goal.returns-in-err-next
-returns-in-err-next c =
+pub returns-in_err-next : goal.returns-in_err-next
+returns-in_err-next c =
     let bs = c.args.file.now in
-    let p = err_from_is_err_and c.from-residual.result c.from-residual.ensures.1 in
-    let g = rows_faulty bs _ _ c.take-rows.result _ _ c.take-rows.ensures c.new-reader.ensures.0 c.in-err-next.was in
+    let p = err_from_is_err_and c.from_residual.result c.from_residual.ensures.1 in
+    let g = rows_faulty bs _ _ c.take_rows.result _ _ c.take_rows.ensures c.new-reader.ensures.0 c.in_err-next.was in
     rw (p.1, p.2) (record { reads = g; only = λ s k. reads_one bs s _ k g })
 
 pub loop-next-init : goal.loop-next-init
 loop-next-init c =
-    waits_first c.args.file.now _ _ c.take-rows.result c.in-ok-next.next _ _ c.take-rows.ensures c.new-reader.ensures.0 c.in-ok-next.was c.close-sheet.ensures
+    waits_first c.args.file.now _ _ c.take_rows.result c.in_ok-next.next _ _ c.take_rows.ensures c.new-reader.ensures.0 c.in_ok-next.was c.close-sheet.ensures
 
 -- the record of this turn
 here : (c : InSome) → Waiting c.args.file.now c.loop-next.reader (Some c.in-Some.item) (closed_book c.loop-next.sheet)
@@ -25,25 +25,25 @@ here c =
     subst (λ (o : Option Record). Waiting c.args.file.now c.loop-next.reader o (closed_book c.loop-next.sheet)) c.in-Some.is
     c.loop-next.invariant
 
-pub returns-in-err-at : goal.returns-in-err-at
-returns-in-err-at c =
+pub returns-in_err-at : goal.returns-in_err-at
+returns-in_err-at c =
     let bs = c.args.file.now in
     let r = c.loop-next.reader in
     let x = c.in-Some.item in
-    let p = err_from_is_err_and c.from-residual-in-err-at.result c.from-residual-in-err-at.ensures.1 in
-    let w = here (goal.at.returns-in-err-at c).InSome in
-    let g = waiting_declined bs r x _ _ w.0 w.1 c.lay.result c.lay.ensures _ (sym c.at.ensures ∙ c.in-err-at.was) in
+    let p = err_from_is_err_and c.from_residual-in_err-at.result c.from_residual-in_err-at.ensures.1 in
+    let w = here (goal.at.returns-in_err-at c).InSome in
+    let g = waiting_declined bs r x _ _ w.0 w.1 c.lay.result c.lay.ensures _ (sym c.at.ensures ∙ c.in_err-at.was) in
     rw (p.1, p.2) (record { reads = g; only = λ s k. reads_one bs s _ k g })
 
-pub returns-in-err-next-2 : goal.returns-in-err-next-2
-returns-in-err-next-2 c =
+pub returns-in_err-next-2 : goal.returns-in_err-next-2
+returns-in_err-next-2 c =
     let bs = c.args.file.now in
     let r = c.loop-next.reader in
     let x = c.in-Some.item in
-    let p = err_from_is_err_and c.from-residual-in-err-next-2.result c.from-residual-in-err-next-2.ensures.1 in
-    let w = here (goal.at.returns-in-err-next-2 c).InSome in
-    let g = waiting_broken bs r x _ _ w.0 w.1 c.lay.result c.lay.ensures _ _ (sym c.at.ensures ∙ c.in-ok-at.was)
-    c.next.new.self c.next.result c.next.ensures.answer c.next.ensures.place _ c.in-err-next-2.was in
+    let p = err_from_is_err_and c.from_residual-in_err-next-2.result c.from_residual-in_err-next-2.ensures.1 in
+    let w = here (goal.at.returns-in_err-next-2 c).InSome in
+    let g = waiting_broken bs r x _ _ w.0 w.1 c.lay.result c.lay.ensures _ _ (sym c.at.ensures ∙ c.in_ok-at.was)
+    c.next.new.self c.next.result c.next.ensures.answer c.next.ensures.place _ c.in_err-next-2.was in
     rw (p.1, p.2) (record { reads = g; only = λ s k. reads_one bs s _ k g })
 
 pub loop-next-preserved : goal.loop-next-preserved
@@ -52,14 +52,14 @@ loop-next-preserved c =
     let r = c.loop-next.reader in
     let x = c.in-Some.item in
     let w = here (goal.at.loop-next-preserved c).InSome in
-    waiting_more bs r x _ _ w.0 w.1 c.lay.result c.lay.ensures _ _ (sym c.at.ensures ∙ c.in-ok-at.was)
-    c.next.new.self c.next.result c.next.ensures.answer c.next.ensures.place c.in-ok-next-2.next
-    c.next.ensures.after c.next.ensures.same c.in-ok-next-2.was
+    waiting_more bs r x _ _ w.0 w.1 c.lay.result c.lay.ensures _ _ (sym c.at.ensures ∙ c.in_ok-at.was)
+    c.next.new.self c.next.result c.next.ensures.answer c.next.ensures.place c.in_ok-next-2.next
+    c.next.ensures.after c.next.ensures.same c.in_ok-next-2.was
 
 pub returns : goal.returns
 returns c =
     let bs = c.args.file.now in
     let b = closed_book c.loop-next.sheet in
-    let w : Waiting bs c.loop-next.reader None b = subst (λ (o : Option Record). Waiting bs c.loop-next.reader o b) c.in-default.is c.loop-next.invariant in
+    let w : Waiting bs c.loop-next.reader None b = subst (λ (o : Option Record). Waiting bs c.loop-next.reader o b) c.in_default.is c.loop-next.invariant in
     let g : Reads bs (Ok b) = (w.0, w.1.0, w.1.1) in
     record { reads = g; only = λ s k. reads_one bs s (Ok b) k g }

@@ -15,13 +15,13 @@ here c =
     subst (λ (p : Phase). Handed c.args.reader.now.file.now v.0 p c.in-Some.item c.next.new.self) v.2
     (handed c.args.reader.now.file.now c.loop-item.reader c.next.new.self v.0 c.next.result v.1
     c.next.ensures.answer c.next.ensures.place c.in-Some.item c.next.ensures.after c.next.ensures.same
-    (c.in-ok-item.was ∙ ap Ok c.in-Some.is))
+    (c.in_ok-item.was ∙ ap Ok c.in-Some.is))
 
 pub returns-then-not-branch : goal.returns-then-not-branch
 returns-then-not-branch c =
     let v = c.loop-item.invariant in
     row_over _ v.0 c.in-Some.item c.next.new.self (here (goal.at.returns-then-not-branch c).InSome) _ _ v.3 c.add.result c.add.ensures
-    (unplaced c.add.result _ _ (sym c.at.ensures ∙ c.in-ok-at.was) ∙ ap Ok c.if-not-branch.true)
+    (unplaced c.add.result _ _ (sym c.at.ensures ∙ c.in_ok-at.was) ∙ ap Ok c.if-not-branch.true)
 
 pub loop-item-preserved : goal.loop-item-preserved
 loop-item-preserved c =
@@ -29,13 +29,13 @@ loop-item-preserved c =
     let x = c.in-Some.item in
     let h = here (goal.at.loop-item-preserved c).InSome in
     let t = row_taken _ v.0 x c.next.new.self h _ _ v.3 c.add.result c.add.ensures
-    (unplaced c.add.result _ _ (sym c.at.ensures ∙ c.in-ok-at.was) ∙ ap Ok c.if-not-branch.false) in
+    (unplaced c.add.result _ _ (sym c.at.ensures ∙ c.in_ok-at.was) ∙ ap Ok c.if-not-branch.false) in
     (v.0 ++ item x ∷ [], passed _ v.0 Rows x c.next.new.self h, t.0, t.1)
 
-pub returns-in-err-at : goal.returns-in-err-at
-returns-in-err-at c =
+pub returns-in_err-at : goal.returns-in_err-at
+returns-in_err-at c =
     let v = c.loop-item.invariant in
-    let p = err_from_is_err_and c.from-residual-in-err-at.result c.from-residual-in-err-at.ensures.1 in
+    let p = err_from_is_err_and c.from_residual-in_err-at.result c.from_residual-in_err-at.ensures.1 in
     rw (p.1, p.2)
-    (row_declined _ v.0 c.in-Some.item c.next.new.self (here (goal.at.returns-in-err-at c).InSome) _ _ v.3 c.add.result c.add.ensures _
-    (sym c.at.ensures ∙ c.in-err-at.was))
+    (row_declined _ v.0 c.in-Some.item c.next.new.self (here (goal.at.returns-in_err-at c).InSome) _ _ v.3 c.add.result c.add.ensures _
+    (sym c.at.ensures ∙ c.in_err-at.was))

@@ -7,21 +7,21 @@ use Rattle.completion.proofs.Rows.{overfull_rows, rows_more}
 use Rattle.completion.proofs.Splitting.{lists_open, splits}
 use Rattle.completion.proofs.listing.open_pairs.Goals as goal
 
-pub open-row-requires : goal.open-row-requires
-open-row-requires g c =
+pub open_row-requires : goal.open_row-requires
+open_row-requires g c =
     let s = c.args.sheet.now in
     let n = ap length c.events-a-end.ensures in
     omega (arith, length-take s.rows.event_count s.rows.events, s.rows.few)
 
-pub returns-then-not-open-row : goal.returns-then-not-open-row
-returns-then-not-open-row g c =
+pub returns-then-not-open_row : goal.returns-then-not-open_row
+returns-then-not-open_row g c =
     let x = facts_of (closed_book c.args.sheet.now) in
     let f = is_open (g.M.Model.meaning c.args.m.now) x in
     let n = ap length c.events-a-end.ensures in
     let m = g.M.Model.meaning c.args.m.now in
     let laws = g.met.M.Model.lawful c.args.m.now in
     record {
-      listed = overfull_rows f (listed c.loop-a.pairs) (length x.events) c.loop-a.a c.loop-a.invariant (omega arith) c.if-not-open-row.ensures;
+      listed = overfull_rows f (listed c.loop-a.pairs) (length x.events) c.loop-a.a c.loop-a.invariant (omega arith) c.if-not-open_row.ensures;
       exact = lists_open m laws x;
       splits = splits m laws x;
     }
@@ -30,7 +30,7 @@ pub loop-a-preserved : goal.loop-a-preserved
 loop-a-preserved g c =
     let x = facts_of (closed_book c.args.sheet.now) in
     let f = is_open (g.M.Model.meaning c.args.m.now) x in
-    c.if-not-open-row.ensures
+    c.if-not-open_row.ensures
     ∙ ap (λ (l : List (ℕ × ℕ)). l ++ open_in_row f c.loop-a.a (length x.events)) c.loop-a.invariant
     ∙ sym (rows_more f (length x.events) c.loop-a.a)
 

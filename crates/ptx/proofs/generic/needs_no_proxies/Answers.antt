@@ -10,5 +10,5 @@ returns c =
     let x = c.args.x.now in
     let s = x.sheet.now in
     let few : length (facts x).events ≤ 64 = omega (arith, length-take s.rows.event_count s.rows.events, s.rows.few) in
-    let e = c.is-generic.ensures ∙ ap (λ (b : Book). all_generic b.events) c.sheet.ensures in
+    let e = c.is_generic.ensures ∙ ap (λ (b : Book). all_generic b.events) c.sheet.ensures in
     record { generic = e; same = λ t. proxies_agree (facts x) few x.within (sym e ∙ t); always = proxies_agree }

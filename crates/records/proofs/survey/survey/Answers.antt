@@ -10,13 +10,13 @@ use Rattle.records.specs.Readers.{rest, Moved}
 use Rattle.records.proofs.Surveys.{front_more, front_over, front_fault, tally_more, count_few, file_long, reads_one}
 use Rattle.records.proofs.survey.survey.Goals as goal
 
-pub returns-in-err-item : goal.returns-in-err-item
-returns-in-err-item c =
+pub returns-in_err-item : goal.returns-in_err-item
+returns-in_err-item c =
     let bs = c.args.file.now in
     let r = c.loop-item.reader in
     let v = c.loop-item.invariant in
-    let p = err_from_is_err_and c.from-residual.result c.from-residual.ensures.1 in
-    let g = front_fault bs r v.0 c.next.result _ v.1 c.next.ensures.answer c.next.ensures.place c.in-err-item.was in
+    let p = err_from_is_err_and c.from_residual.result c.from_residual.ensures.1 in
+    let g = front_fault bs r v.0 c.next.result _ v.1 c.next.ensures.answer c.next.ensures.place c.in_err-item.was in
     rw (p.1, p.2) (record { reads = g; only = λ s k. reads_one bs s _ k g })
 
 pub note-requires : goal.note-requires
@@ -38,7 +38,7 @@ loop-item-preserved c =
     let r = c.loop-item.reader in
     let v = c.loop-item.invariant in
     let i = c.in-Some.item in
-    let got : c.next.result ≡ Ok (Some i) = c.in-ok-item.was ∙ ap Ok c.in-Some.is in
+    let got : c.next.result ≡ Ok (Some i) = c.in_ok-item.was ∙ ap Ok c.in-Some.is in
     let n = subst (λ (x : Result (Option Record) Fault). Next r.phase (rest r) (seen x)) got c.next.ensures.answer in
     let m = subst (λ (x : Result (Option Record) Fault). Moved r x c.next.new.self) got c.next.ensures.after in (
       v.0 ++ item i ∷ [],
@@ -51,7 +51,7 @@ returns c =
     let bs = c.args.file.now in
     let r = c.loop-item.reader in
     let v = c.loop-item.invariant in
-    let got : c.next.result ≡ Ok None = c.in-ok-item.was ∙ ap Ok c.in-default.is in
+    let got : c.next.result ≡ Ok None = c.in_ok-item.was ∙ ap Ok c.in_default.is in
     let n = subst (λ (x : Result (Option Record) Fault). Next r.phase (rest r) (seen x)) got c.next.ensures.answer in
     let g : Reads bs (Ok c.loop-item.tally) = (v.0, front_over bs r v.0 None v.1 n, v.2) in
     record { reads = g; only = λ s k. reads_one bs s (Ok c.loop-item.tally) k g }

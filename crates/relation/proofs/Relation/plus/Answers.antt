@@ -6,7 +6,7 @@ use Rattle.relation.proofs.Relation.plus.Goals as goal
 
 pub returns : goal.returns
 returns c =
-    let e = c.read-back.ensures
-    ∙ closed_plus c.args.self.now _ _ c.lay-out.ensures
+    let e = c.read_back.ensures
+    ∙ closed_plus c.args.self.now _ _ c.lay_out.ensures
     (c.reach.ensures.closed (c.reach.ensures.answer ∙ ap (fitting 64) (let l : _ ≡ 4096 = omega arith in l))) in
     record { is = e; chains = plus_says c.args.self.now _ e }

@@ -1,7 +1,7 @@
 use Rattle.replay.proofs.closing.lay.Goals as goal
 
 pub returns-in-ReadFrom : goal.returns-in-ReadFrom
-returns-in-ReadFrom c = rw c.in-ReadFrom.is (record { answers = c.read-from.ensures.answers; book = c.read-from.ensures.book })
+returns-in-ReadFrom c = rw c.in-ReadFrom.is (record { answers = c.read_from.ensures.answers; book = c.read_from.ensures.book })
 
 pub returns-in-Order : goal.returns-in-Order
 returns-in-Order c = rw c.in-Order.is (record { answers = c.order.ensures.answers; book = c.order.ensures.book })

@@ -13,7 +13,7 @@ pub returns-in-Stop : goal.returns-in-Stop
 returns-in-Stop c =
     let b = closed_book c.loop-i.sheet in
     let xs = vec_items c.loop-i.answers in
-    let b' = closed_book c.closed-turn.new.sheet in
-    let ys = vec_items c.closed-turn.new.answers in
-    let e = subst (λ t. Turned (c.loop-i.i + 1) c.args.calls.now b xs c.loop-i.i b' ys t) c.in-Stop.is c.in-ok-n.ensures in
+    let b' = closed_book c.closed_turn.new.sheet in
+    let ys = vec_items c.closed_turn.new.answers in
+    let e = subst (λ t. Turned (c.loop-i.i + 1) c.args.calls.now b xs c.loop-i.i b' ys t) c.in-Stop.is c.in_ok-n.ensures in
     (c.loop-i.invariant ∙ e.0, e.1)

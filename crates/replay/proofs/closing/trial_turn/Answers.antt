@@ -8,9 +8,9 @@ use Rattle.replay.proofs.Places.{end_answer, end_ends, end_in_place, out_of_tria
 use Rattle.replay.proofs.Steps.{goes_one, halts_out, halts_end, ended_idle, stops_shown}
 use Rattle.replay.proofs.closing.trial_turn.Goals as goal
 
-pub returns-in-default : goal.returns-in-default
-returns-in-default c =
-    let e = ended_idle (trial_book c.args.trial.now) (sym c.edge.ensures ∙ c.in-default.is) in
+pub returns-in_default : goal.returns-in_default
+returns-in_default c =
+    let e = ended_idle (trial_book c.args.trial.now) (sym c.edge.ensures ∙ c.in_default.is) in
     (omega arith, ap (λ z. told (vec_items c.args.answers.now) (run z (drop c.args.i c.args.calls.now))) (sym e))
 
 pub returns-then-i-calls : goal.returns-then-i-calls
@@ -20,18 +20,18 @@ returns-then-i-calls c =
     let b = trial_book c.args.trial.now in
     stops_shown cs b xs c.args.i _ true c.edges.ensures c.in-Some.ensures (halts_end cs b xs c.args.i c.if-i-calls.true)
 
-pub returns-in-ok-push : goal.returns-in-ok-push
-returns-in-ok-push c =
+pub returns-in_ok-push : goal.returns-in_ok-push
+returns-in_ok-push c =
     let xs = vec_items c.args.answers.now in
     let b = trial_book c.args.trial.now in
     let p = end_in_place b (c.in-Some.first, c.in-Some.second) refl c.in-Some.ensures in
     let g = goes_one c.args.calls.now b xs c.args.i (Thread 0 0) End Done (ended b) c.if-i-calls.false c.in-End.is p (end_answer b) (end_ends b) in
-    (omega arith, rw c.in-ok-push.ensures.items g)
+    (omega arith, rw c.in_ok-push.ensures.items g)
 
-pub returns-in-default-calls : goal.returns-in-default-calls
-returns-in-default-calls c =
+pub returns-in_default-calls : goal.returns-in_default-calls
+returns-in_default-calls c =
     let cs = c.args.calls.now in
     let xs = vec_items c.args.answers.now in
     let b = trial_book c.args.trial.now in
-    let p = out_of_trial b (c.in-Some.first, c.in-Some.second) refl c.in-Some.ensures _ c.in-default-calls.not-End in
+    let p = out_of_trial b (c.in-Some.first, c.in-Some.second) refl c.in-Some.ensures _ c.in_default-calls.not-End in
     stops_shown cs b xs c.args.i _ false c.edges.ensures c.in-Some.ensures (halts_out cs b xs c.args.i (Thread 0 0) c.if-i-calls.false p)

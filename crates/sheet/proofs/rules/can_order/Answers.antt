@@ -6,10 +6,10 @@ pub returns-then-e-f : goal.returns-then-e-f
 unfolding can_order
 returns-then-e-f c = search rules
 
-pub returns-then-is-sc-fence : goal.returns-then-is-sc-fence
+pub returns-then-is_sc_fence : goal.returns-then-is_sc_fence
 unfolding can_order
-returns-then-is-sc-fence c = search rules
+returns-then-is_sc_fence c = search rules
 
-pub returns-else-is-sc-fence : goal.returns-else-is-sc-fence
+pub returns-else-is_sc_fence : goal.returns-else-is_sc_fence
 unfolding can_order
-returns-else-is-sc-fence c = search rules
+returns-else-is_sc_fence c = search rules

@@ -2,10 +2,10 @@ use Rattle.std.proofs.Common.{rules}
 use Rattle.sheet.specs.Rules.{lawful}
 use Rattle.sheet.proofs.rules.is_lawful.Goals as goal
 
-pub returns-then-proxy-fits : goal.returns-then-proxy-fits
+pub returns-then-proxy_fits : goal.returns-then-proxy_fits
 unfolding lawful
-returns-then-proxy-fits c = search rules
+returns-then-proxy_fits c = search rules
 
-pub returns-else-proxy-fits : goal.returns-else-proxy-fits
+pub returns-else-proxy_fits : goal.returns-else-proxy_fits
 unfolding lawful
-returns-else-proxy-fits c = search rules
+returns-else-proxy_fits c = search rules

@@ -26,11 +26,11 @@ returns-in-Ok c =
     let k = c.args.self.now in
     let x = c.in-Some-waiting.item in
     record {
-      again = λ f h. no_fault k x c.in-default.is c.in-Some-waiting.is f h;
+      again = λ f h. no_fault k x c.in_default.is c.in-Some-waiting.is f h;
       fault = refl;
-      sheet = asked k x c.in-default.is c.in-Some-waiting.is _ c.advance.ensures.laid;
+      sheet = asked k x c.in_default.is c.in-Some-waiting.is _ c.advance.ensures.laid;
       steps = λ bs front s.
-          let w = due k x c.in-default.is c.in-Some-waiting.is bs front s in
+          let w = due k x c.in_default.is c.in-Some-waiting.is bs front s in
           (w.1.place, w.1.whole, (s.0, c.in-Ok.ensures.more bs front w));
     }
 
@@ -39,8 +39,8 @@ returns-in-Err c =
     let k = c.args.self.now in
     let x = c.in-Some-waiting.item in
     record {
-      again = λ f h. no_fault k x c.in-default.is c.in-Some-waiting.is f h;
+      again = λ f h. no_fault k x c.in_default.is c.in-Some-waiting.is f h;
       fault = refl;
-      sheet = asked k x c.in-default.is c.in-Some-waiting.is _ c.advance.ensures.laid;
-      steps = λ bs front s. c.in-Err.ensures.more bs front (due k x c.in-default.is c.in-Some-waiting.is bs front s);
+      sheet = asked k x c.in_default.is c.in-Some-waiting.is _ c.advance.ensures.laid;
+      steps = λ bs front s. c.in-Err.ensures.more bs front (due k x c.in_default.is c.in-Some-waiting.is bs front s);
     }

@@ -10,8 +10,8 @@ all_set P t i v h p all k = ⊎_elim
     (λ ne. subst P (sym (get_or-set_other t i k v (0, 0) ne)) (all k))
     (cases_eq k i)
 
-pub invariant-of-self : goal.invariant-of-self
-invariant-of-self c =
+pub invariant_of-self : goal.invariant_of-self
+invariant_of-self c =
     let t = c.args.self.now.at in
     let i = c.args.self.now.count in
     let v : ℕ × ℕ = (c.args.a, c.args.b) in

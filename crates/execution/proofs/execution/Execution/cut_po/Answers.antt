@@ -5,8 +5,8 @@ use Rattle.sheet.specs.Sheets.{closed_book}
 use Rattle.execution.proofs.Joining.{joins_both}
 use Rattle.execution.proofs.execution.Execution.cut_po.Goals as goal
 
-pub invariant-of-result : goal.invariant-of-result
-invariant-of-result c =
+pub invariant_of-result : goal.invariant_of-result
+invariant_of-result c =
     let x = c.args.self.now in (
       λ a b h.
           joins_both (closed_book x.sheet.now).events (holds x.po) (holds c.args.kept.now) x.within a b

@@ -5,8 +5,8 @@ use Rattle.execution.specs.declared.tie.Tie.TheVariants.{ProgramOrder}
 use Rattle.execution.proofs.Joining.{joins_tied}
 use Rattle.execution.proofs.execution.Execution.of.Goals as goal
 
-pub invariant-of-result : goal.invariant-of-result
-invariant-of-result c = (
+pub invariant_of-result : goal.invariant_of-result
+invariant_of-result c = (
   λ a b h.
       let k = closed_book c.args.sheet.now in
       joins_tied k.events k.threads ProgramOrder a b (sym (ap (λ (r : Rel). r a b) c.tied.ensures) ∙ h),

@@ -9,5 +9,5 @@ pub returns : goal.returns
 returns g c =
     let m = g.M.Model.meaning c.args.self.now.below in
     let x = c.args.x.now in
-    let e = c.is-generic.ensures ∙ ap (λ (b : Book). all_generic b.events) c.sheet.ensures in
+    let e = c.is_generic.ensures ∙ ap (λ (b : Book). all_generic b.events) c.sheet.ensures in
     record { generic = e; same = λ t. transparent m (facts x) x.within (sym e ∙ t); always = transparent m }

@@ -8,35 +8,35 @@ use Rattle.sheet.proofs.closed.ClosedSheet.can_carry.Goals as goal
 pub returns-in-ReadFrom : goal.returns-in-ReadFrom
 returns-in-ReadFrom c =
     let t = c.args.self.now.rows in
-    carries_read_from t.events t.event_count c.args.first c.args.second c.requires.0 c.requires.1 c.args.edge _ c.in-ReadFrom.is c.can-read-from.ensures
+    carries_read_from t.events t.event_count c.args.first c.args.second c.requires.0 c.requires.1 c.args.edge _ c.in-ReadFrom.is c.can_read_from.ensures
 
 pub returns-then-i-j : goal.returns-then-i-j
 returns-then-i-j c =
     let t = c.args.self.now.rows in
-    carries_order t.events t.event_count c.args.first c.args.second c.requires.0 c.requires.1 c.args.edge _ c.in-Order.is c.if-i-j.true c.can-order.ensures
+    carries_order t.events t.event_count c.args.first c.args.second c.requires.0 c.requires.1 c.args.edge _ c.in-Order.is c.if-i-j.true c.can_order.ensures
 
 pub returns-else-i-j : goal.returns-else-i-j
 returns-else-i-j c =
     let t = c.args.self.now.rows in
     ap not (eq-eqb c.args.first c.args.second c.if-i-j.false) ∙ carries_one t.events t.event_count c.args.first c.args.second c.requires.0 c.requires.1 c.args.edge c.in-Order.is c.if-i-j.false
 
-pub returns-then-can-join : goal.returns-then-can-join
-returns-then-can-join c =
+pub returns-then-can_join : goal.returns-then-can_join
+returns-then-can_join c =
     let t = c.args.self.now.rows in
-    carries_atomic t.events t.event_count c.args.first c.args.second c.requires.0 c.requires.1 c.args.edge _ c.in-Atomic.is c.if-can-join.ensures
-    (c.is-next.ensures ∙ ap (λ n. is_next (take n t.events) c.args.first c.args.second) (sub-zero t.event_count))
+    carries_atomic t.events t.event_count c.args.first c.args.second c.requires.0 c.requires.1 c.args.edge _ c.in-Atomic.is c.if-can_join.ensures
+    (c.is_next.ensures ∙ ap (λ n. is_next (take n t.events) c.args.first c.args.second) (sub-zero t.event_count))
 
-pub returns-else-can-join : goal.returns-else-can-join
-returns-else-can-join c =
+pub returns-else-can_join : goal.returns-else-can_join
+returns-else-can_join c =
     let t = c.args.self.now.rows in
-    c.if-can-join.false ∙ carries_no_atomic t.events t.event_count c.args.first c.args.second c.requires.0 c.requires.1 c.args.edge c.in-Atomic.is c.if-can-join.ensures
+    c.if-can_join.false ∙ carries_no_atomic t.events t.event_count c.args.first c.args.second c.requires.0 c.requires.1 c.args.edge c.in-Atomic.is c.if-can_join.ensures
 
-pub returns-then-can-depend : goal.returns-then-can-depend
-returns-then-can-depend c =
+pub returns-then-can_depend : goal.returns-then-can_depend
+returns-then-can_depend c =
     let t = c.args.self.now.rows in
-    carries_depend t.events t.event_count c.args.first c.args.second c.requires.0 c.requires.1 c.args.edge _ c.in-Depend.is c.if-can-depend.ensures refl
+    carries_depend t.events t.event_count c.args.first c.args.second c.requires.0 c.requires.1 c.args.edge _ c.in-Depend.is c.if-can_depend.ensures refl
 
-pub returns-else-can-depend : goal.returns-else-can-depend
-returns-else-can-depend c =
+pub returns-else-can_depend : goal.returns-else-can_depend
+returns-else-can_depend c =
     let t = c.args.self.now.rows in
-    c.if-can-depend.false ∙ carries_no_depend t.events t.event_count c.args.first c.args.second c.requires.0 c.requires.1 c.args.edge c.in-Depend.is c.if-can-depend.ensures
+    c.if-can_depend.false ∙ carries_no_depend t.events t.event_count c.args.first c.args.second c.requires.0 c.requires.1 c.args.edge c.in-Depend.is c.if-can_depend.ensures

@@ -6,47 +6,47 @@ use Rattle.sheet.specs.Book.{absent, full, bad_field, cannot_carry, differ, ther
 use Rattle.sheet.proofs.Laws.{row_1, row_4, row_5, row_6, no_row, refuses, accepts, known_both}
 use Rattle.sheet.proofs.closed.ClosedSheet.check.Goals as goal
 
-pub returns-then-not-both-known : goal.returns-then-not-both-known
+pub returns-then-not-both_known : goal.returns-then-not-both_known
 unfolding absent
-returns-then-not-both-known c =
+returns-then-not-both_known c =
     let b = closed_book c.args.self.now in
     let k = Lay c.args.edge c.args.first c.args.second in
-    (refuses b k Absent tt (row_1 b k (ap not (sym c.if-not-both-known.ensures)))).0
+    (refuses b k Absent tt (row_1 b k (ap not (sym c.if-not-both_known.ensures)))).0
 
-pub can-carry-requires : goal.can-carry-requires
-can-carry-requires c =
+pub can_carry-requires : goal.can_carry-requires
+can_carry-requires c =
     let t = c.args.self.now.rows in
-    known_both t.events t.event_count c.args.first c.args.second (sym c.if-not-both-known.ensures)
+    known_both t.events t.event_count c.args.first c.args.second (sym c.if-not-both_known.ensures)
 
 pub differs-requires : goal.differs-requires
 differs-requires c =
     let t = c.args.self.now.rows in
-    known_both t.events t.event_count c.args.first c.args.second (sym c.if-not-both-known.ensures)
+    known_both t.events t.event_count c.args.first c.args.second (sym c.if-not-both_known.ensures)
 
-pub returns-then-not-can-carry : goal.returns-then-not-can-carry
+pub returns-then-not-can_carry : goal.returns-then-not-can_carry
 unfolding absent full bad_field cannot_carry
-returns-then-not-can-carry c =
+returns-then-not-can_carry c =
     let b = closed_book c.args.self.now in
     let k = Lay c.args.edge c.args.first c.args.second in
-    (refuses b k CannotCarry tt (row_4 b k (ap not (sym c.if-not-both-known.ensures)) refl refl (ap not (sym c.if-not-can-carry.ensures)))).0
+    (refuses b k CannotCarry tt (row_4 b k (ap not (sym c.if-not-both_known.ensures)) refl refl (ap not (sym c.if-not-can_carry.ensures)))).0
 
 pub returns-then-differs : goal.returns-then-differs
 unfolding absent full bad_field cannot_carry differ
 returns-then-differs c =
     let b = closed_book c.args.self.now in
     let k = Lay c.args.edge c.args.first c.args.second in
-    (refuses b k ValuesDiffer tt (row_5 b k (ap not (sym c.if-not-both-known.ensures)) refl refl (ap not (sym c.if-not-can-carry.ensures)) (sym c.if-differs.ensures))).0
+    (refuses b k ValuesDiffer tt (row_5 b k (ap not (sym c.if-not-both_known.ensures)) refl refl (ap not (sym c.if-not-can_carry.ensures)) (sym c.if-differs.ensures))).0
 
 pub returns-then-gives : goal.returns-then-gives
 unfolding absent full bad_field cannot_carry differ there
 returns-then-gives c =
     let b = closed_book c.args.self.now in
     let k = Lay c.args.edge c.args.first c.args.second in
-    (refuses b k Given tt (row_6 b k (ap not (sym c.if-not-both-known.ensures)) refl refl (ap not (sym c.if-not-can-carry.ensures)) (sym c.if-differs.ensures) (sym c.if-gives.ensures))).0
+    (refuses b k Given tt (row_6 b k (ap not (sym c.if-not-both_known.ensures)) refl refl (ap not (sym c.if-not-can_carry.ensures)) (sym c.if-differs.ensures) (sym c.if-gives.ensures))).0
 
 pub returns : goal.returns
 unfolding absent full bad_field cannot_carry differ there
 returns c =
     let b = closed_book c.args.self.now in
     let k = Lay c.args.edge c.args.first c.args.second in
-    (accepts b k tt (no_row b k (ap not (sym c.if-not-both-known.ensures)) refl refl (ap not (sym c.if-not-can-carry.ensures)) (sym c.if-differs.ensures) (sym c.if-gives.ensures))).0
+    (accepts b k tt (no_row b k (ap not (sym c.if-not-both_known.ensures)) refl refl (ap not (sym c.if-not-can_carry.ensures)) (sym c.if-differs.ensures) (sym c.if-gives.ensures))).0

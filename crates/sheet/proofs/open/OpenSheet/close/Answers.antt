@@ -5,8 +5,8 @@ use Rattle.sheet.specs.Sheets.{open_book}
 use Rattle.sheet.proofs.Laws.{accepts, no_row, blank_fits, blank_one_source, blank_one_way}
 use Rattle.sheet.proofs.open.OpenSheet.close.Goals as goal
 
-pub invariant-of-result : goal.invariant-of-result
-invariant-of-result c = (blank_fits _ _ c.none.ensures, (blank_one_source _ c.none.ensures, (blank_one_way _ c.none.ensures, tt)))
+pub invariant_of-result : goal.invariant_of-result
+invariant_of-result c = record { edges_fit = blank_fits _ _ c.none.ensures; one_source = blank_one_source _ c.none.ensures; one_way = blank_one_way _ c.none.ensures }
 
 pub returns : goal.returns
 unfolding absent full bad_field cannot_carry differ there accepted

@@ -31,47 +31,44 @@ returns-then-n-ge-EVENTS c =
     let r = refuses b k Full (length b.events) (row_2 b k (ap not (lt-ltb _ _ (omega arith))) (ap not (le-ltb _ _ (omega arith)))) in
     record { answers = r.0; book = r.1 }
 
-pub returns-in-default : goal.returns-in-default
+pub returns-in_default : goal.returns-in_default
 unfolding absent full bad_field
-returns-in-default c =
+returns-in_default c =
     let b = open_book c.args.self.now in
     let k = AddEvent c.args.fields in
     let l : length b.threads ≡ c.args.self.now.rows.thread_count = length-take-le _ _ (omega arith) in
     let m : length b.events ≡ c.args.self.now.rows.event_count = length-take-le _ _ (omega arith) in
-    let g = decoded_none c.args.fields (sym c.decode.ensures ∙ c.in-default.is) in
+    let g = decoded_none c.args.fields (sym c.decode.ensures ∙ c.in_default.is) in
     let r = refuses b k BadField (length b.events) (row_3 b k (ap not (lt-ltb _ _ (omega arith))) (ap not (lt-ltb _ _ (omega arith))) (ap not g)) in
     record { answers = r.0; book = r.1 }
 
-pub returns-then-not-is-lawful : goal.returns-then-not-is-lawful
+pub returns-then-not-is_lawful : goal.returns-then-not-is_lawful
 unfolding absent full bad_field
-returns-then-not-is-lawful c =
+returns-then-not-is_lawful c =
     let b = open_book c.args.self.now in
     let k = AddEvent c.args.fields in
     let l : length b.threads ≡ c.args.self.now.rows.thread_count = length-take-le _ _ (omega arith) in
     let m : length b.events ≡ c.args.self.now.rows.event_count = length-take-le _ _ (omega arith) in
-    let g = decoded_unlawful c.args.fields c.in-Some.event (sym c.decode.ensures ∙ c.in-Some.is) (sym c.if-not-is-lawful.ensures) in
+    let g = decoded_unlawful c.args.fields c.in-Some.event (sym c.decode.ensures ∙ c.in-Some.is) (sym c.if-not-is_lawful.ensures) in
     let r = refuses b k BadField (length b.events) (row_3 b k (ap not (lt-ltb _ _ (omega arith))) (ap not (lt-ltb _ _ (omega arith))) (ap not g)) in
     record { answers = r.0; book = r.1 }
 
-pub invariant-of-self-2 : goal.invariant-of-self-2
+pub invariant_of-self-2 : goal.invariant_of-self-2
 unfolding event_comes
-invariant-of-self-2 c =
+invariant_of-self-2 c =
     let t = c.args.self.now.rows in
     let n = t.event_count in
     let d = sym c.decode.ensures ∙ c.in-Some.is in
     let q = decoded_numbers c.args.fields c.in-Some.event d in
     let own = ap (λ i. ltb i t.thread_count) q.0 ∙ lt-ltb c.args.fields.thread t.thread_count (omega arith) in
     let a = ap (λ i. ltb i 65536) q.1 ∙ lt-ltb c.args.fields.address 65536 (omega arith) in
-    let v = ap (λ i. ltb i 4294967296) q.2 ∙ lt-ltb c.args.fields.value 4294967296 (omega arith) in (
-      (
-        (omega arith, omega arith),
-        (
-          (omega arith, length-set t.events n _ ∙ omega arith),
-          (t.threads_fit, (fit_more (λ es e. event_comes t.thread_count e) no_event t.events n c.in-Some.event (omega arith) (and_from _ _ own (and_from _ _ (sym c.if-not-is-lawful.ensures) (and_from _ _ a v))) t.events_fit, tt)),
-        ),
-      ),
-      tt,
-    )
+    let v = ap (λ i. ltb i 4294967296) q.2 ∙ lt-ltb c.args.fields.value 4294967296 (omega arith) in
+    record {
+      few = (omega arith, omega arith);
+      long = (omega arith, length-set t.events n _ ∙ omega arith);
+      threads_fit = t.threads_fit;
+      events_fit = fit_more (λ es e. event_comes t.thread_count e) no_event t.events n c.in-Some.event (omega arith) (and_from _ _ own (and_from _ _ (sym c.if-not-is_lawful.ensures) (and_from _ _ a v))) t.events_fit;
+    }
 
 pub returns : goal.returns
 unfolding absent full bad_field cannot_carry differ there accepted
@@ -81,6 +78,6 @@ returns c =
     let t = c.args.self.now.rows in
     let l : length b.threads ≡ t.thread_count = length-take-le _ _ (omega arith) in
     let m : length b.events ≡ t.event_count = length-take-le _ _ (omega arith) in
-    let g = decoded_lawful c.args.fields c.in-Some.event (sym c.decode.ensures ∙ c.in-Some.is) (sym c.if-not-is-lawful.ensures) in
+    let g = decoded_lawful c.args.fields c.in-Some.event (sym c.decode.ensures ∙ c.in-Some.is) (sym c.if-not-is_lawful.ensures) in
     let r = accepts b k (length b.events) (no_row b k (ap not (lt-ltb _ _ (omega arith))) (ap not (lt-ltb _ _ (omega arith))) (ap not g.0) refl refl refl) in
     record { answers = ap Ok (sym m) ∙ r.0; book = rw (take_more_set t.events t.event_count c.in-Some.event (omega arith), g.1) r.1 }

@@ -21,40 +21,37 @@ returns-then-n-ge-THREADS c =
     let r = refuses b k Full (length b.threads) (row_2 b k refl (ap not (le-ltb _ _ (omega arith)))) in
     record { answers = r.0; book = r.1 }
 
-pub returns-then-not-thread-fits : goal.returns-then-not-thread-fits
+pub returns-then-not-thread_fits : goal.returns-then-not-thread_fits
 unfolding absent full bad_field
-returns-then-not-thread-fits c =
+returns-then-not-thread_fits c =
     let b = open_book c.args.self.now in
     let k = AddThread c.args.block c.args.device in
     let t = c.args.self.now.rows in
     let l : length b.threads ≡ t.thread_count = length-take-le _ _ (omega arith) in
     let g : thread_fits b.threads c.args.block c.args.device ≡ false =
-    ap (λ n. thread_fits (take n t.threads) c.args.block c.args.device) (sym (sub-zero t.thread_count)) ∙ sym c.if-not-thread-fits.ensures in
+    ap (λ n. thread_fits (take n t.threads) c.args.block c.args.device) (sym (sub-zero t.thread_count)) ∙ sym c.if-not-thread_fits.ensures in
     let r = refuses b k BadField (length b.threads) (row_3 b k refl (ap not (lt-ltb _ _ (omega arith))) (ap not g)) in
     record { answers = r.0; book = r.1 }
 
-pub invariant-of-self : goal.invariant-of-self
-invariant-of-self c =
+pub invariant_of-self : goal.invariant_of-self
+invariant_of-self c =
     let t = c.args.self.now.rows in
     let n = t.thread_count in
     ((omega arith, omega arith), ((length-set t.threads n _ ∙ omega arith, omega arith), (fit_set thread_comes no_thread t.threads n n _ (omega arith) t.threads_fit, (t.events_fit, tt))))
 
-pub invariant-of-self-2 : goal.invariant-of-self-2
+pub invariant_of-self-2 : goal.invariant_of-self-2
 unfolding thread_comes
-invariant-of-self-2 c =
+invariant_of-self-2 c =
     let t = c.args.self.now.rows in
     let n = t.thread_count in
     let g : thread_fits (take n t.threads) c.args.block c.args.device ≡ true =
-    ap (λ m. thread_fits (take m t.threads) c.args.block c.args.device) (sym (sub-zero n)) ∙ sym c.if-not-thread-fits.ensures in (
-      (
-        (omega arith, omega arith),
-        (
-          (length-set t.threads n _ ∙ omega arith, omega arith),
-          (fit_more thread_comes no_thread t.threads n _ (omega arith) g t.threads_fit, (more_threads n t.events t.event_count t.events_fit, tt)),
-        ),
-      ),
-      tt,
-    )
+    ap (λ m. thread_fits (take m t.threads) c.args.block c.args.device) (sym (sub-zero n)) ∙ sym c.if-not-thread_fits.ensures in
+    record {
+      few = (omega arith, omega arith);
+      long = (length-set t.threads n _ ∙ omega arith, omega arith);
+      threads_fit = fit_more thread_comes no_thread t.threads n _ (omega arith) g t.threads_fit;
+      events_fit = more_threads n t.events t.event_count t.events_fit;
+    }
 
 pub returns : goal.returns
 unfolding absent full bad_field cannot_carry differ there accepted
@@ -64,6 +61,6 @@ returns c =
     let t = c.args.self.now.rows in
     let l : length b.threads ≡ t.thread_count = length-take-le _ _ (omega arith) in
     let g : thread_fits b.threads c.args.block c.args.device ≡ true =
-    ap (λ n. thread_fits (take n t.threads) c.args.block c.args.device) (sym (sub-zero t.thread_count)) ∙ sym c.if-not-thread-fits.ensures in
+    ap (λ n. thread_fits (take n t.threads) c.args.block c.args.device) (sym (sub-zero t.thread_count)) ∙ sym c.if-not-thread_fits.ensures in
     let r = accepts b k (length b.threads) (no_row b k refl (ap not (lt-ltb _ _ (omega arith))) (ap not g) refl refl refl) in
     record { answers = ap Ok (sym l) ∙ r.0; book = rw (take_more_set t.threads t.thread_count (record { block = c.args.block; device = c.args.device }) (omega arith)) r.1 }

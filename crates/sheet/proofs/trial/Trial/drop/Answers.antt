@@ -5,16 +5,16 @@ use Rattle.sheet.specs.Sets.{laid}
 use Rattle.sheet.specs.Sheets.{closed_book}
 use Rattle.sheet.proofs.Kept.{facts_undone}
 use Rattle.sheet.proofs.trial.Trial.drop.Goals as goal
-use Rattle.sheet.proofs.trial.Trial.drop.Goals.{in_Some, in-default}
+use Rattle.sheet.proofs.trial.Trial.drop.Goals.{in-Some, in_default}
 
-pub invariant-of-sheet : goal.invariant-of-sheet
-invariant-of-sheet c = facts_undone c.args.self.sheet.now Order c.in-Some.first c.in-Some.second _ c.remove.ensures
+pub invariant_of-sheet : goal.invariant_of-sheet
+invariant_of-sheet c = facts_undone c.args.self.sheet.now Order c.in-Some.first c.in-Some.second _ c.remove.ensures
 
 pub returns : goal.returns
 unfolding ended
 returns c =
     let s = c.args.self.sheet.now in
     elim c.match-edge.branch [
-      | in_Some w ↦ ap closed_book w.sheet-is ∙ rw (w.remove.ensures, w.in-Some.is) refl
-      | in-default w ↦ ap closed_book w.sheet-is ∙ rw w.in-default.is refl
+      | in-Some w ↦ ap closed_book w.sheet-is ∙ rw (w.remove.ensures, w.in-Some.is) refl
+      | in_default w ↦ ap closed_book w.sheet-is ∙ rw w.in_default.is refl
     ]
