@@ -6,7 +6,7 @@ use Rattle.casefile.specs.Files.{Reads}
 use Rattle.casefile.proofs.Reading.{Waiting, waits_first, rows_faulty, waiting_declined, waiting_broken, waiting_more}
 use Rattle.casefile.proofs.Unique.{reads_one}
 use Rattle.casefile.proofs.input.read.Goals as goal
-use Rattle.casefile.proofs.input.read.Goals.{InSome}
+use Rattle.casefile.proofs.input.read.Goals.{In-Some}
 
 pub returns-in_err-next : goal.returns-in_err-next
 returns-in_err-next c =
@@ -20,7 +20,7 @@ loop-next-init c =
     waits_first c.args.file.now _ _ c.take_rows.result c.in_ok-next.next _ _ c.take_rows.ensures c.new-reader.ensures.0 c.in_ok-next.was c.close-sheet.ensures
 
 -- the record of this turn
-here : (c : InSome) → Waiting c.args.file.now c.loop-next.reader (Some c.in-Some.item) (closed_book c.loop-next.sheet)
+here : (c : In-Some) → Waiting c.args.file.now c.loop-next.reader (Some c.in-Some.item) (closed_book c.loop-next.sheet)
 here c =
     subst (λ (o : Option Record). Waiting c.args.file.now c.loop-next.reader o (closed_book c.loop-next.sheet)) c.in-Some.is
     c.loop-next.invariant
@@ -31,7 +31,7 @@ returns-in_err-at c =
     let r = c.loop-next.reader in
     let x = c.in-Some.item in
     let p = err_from_is_err_and c.from_residual-in_err-at.result c.from_residual-in_err-at.ensures.1 in
-    let w = here (goal.at.returns-in_err-at c).InSome in
+    let w = here (goal.at.returns-in_err-at c).In-Some in
     let g = waiting_declined bs r x _ _ w.0 w.1 c.lay.result c.lay.ensures _ (sym c.at.ensures ∙ c.in_err-at.was) in
     rw (p.1, p.2) (record { reads = g; only = λ s k. reads_one bs s _ k g })
 
@@ -41,7 +41,7 @@ returns-in_err-next-2 c =
     let r = c.loop-next.reader in
     let x = c.in-Some.item in
     let p = err_from_is_err_and c.from_residual-in_err-next-2.result c.from_residual-in_err-next-2.ensures.1 in
-    let w = here (goal.at.returns-in_err-next-2 c).InSome in
+    let w = here (goal.at.returns-in_err-next-2 c).In-Some in
     let g = waiting_broken bs r x _ _ w.0 w.1 c.lay.result c.lay.ensures _ _ (sym c.at.ensures ∙ c.in_ok-at.was)
     c.next.new.self c.next.result c.next.ensures.answer c.next.ensures.place _ c.in_err-next-2.was in
     rw (p.1, p.2) (record { reads = g; only = λ s k. reads_one bs s _ k g })
@@ -51,7 +51,7 @@ loop-next-preserved c =
     let bs = c.args.file.now in
     let r = c.loop-next.reader in
     let x = c.in-Some.item in
-    let w = here (goal.at.loop-next-preserved c).InSome in
+    let w = here (goal.at.loop-next-preserved c).In-Some in
     waiting_more bs r x _ _ w.0 w.1 c.lay.result c.lay.ensures _ _ (sym c.at.ensures ∙ c.in_ok-at.was)
     c.next.new.self c.next.result c.next.ensures.answer c.next.ensures.place c.in_ok-next-2.next
     c.next.ensures.after c.next.ensures.same c.in_ok-next-2.was
