@@ -30,7 +30,7 @@ pub struct View<M> {
     pub below: M,
 }
 
-pub impl<M: Model> Model for View<M> as ViewModel {
+impl<M: Model> Model for View<M> {
     type Prepared = M::Prepared;
 
     type Laid = M::Laid;

@@ -73,7 +73,7 @@ fn are_fences(sheet: &ClosedSheet, a: usize, b: usize) -> bool
         & !is_tied(sheet, Tie::Itself, a, b)
 }
 
-pub impl Model for Ptx as PtxModel {
+impl Model for Ptx {
     type Prepared = Basis;
 
     type Laid = Causality;

@@ -31,7 +31,7 @@ fn torn(b: &Basis, c: &Communication) -> Relation
     c.fr.then(&c.co_plus).intersection(&b.atomic)
 }
 
-pub impl Model for Sc as ScModel {
+impl Model for Sc {
     type Prepared = Basis;
 
     type Laid = Communication;

@@ -22,17 +22,17 @@ returns-then-n-calls c =
       sheet = refl;
     }
 
-pub returns-in_ok-whole : goal.returns-in_ok-whole
+pub returns-in_ok-whole-in-Close : goal.returns-in_ok-whole-in-Close
 unfolding place
-returns-in_ok-whole c =
+returns-in_ok-whole-in-Close c =
     let cs = c.args.calls.now in
     let n = c.in_ok-n.n in
     let b = open_book c.run_open.new.sheet in
     let xs = vec_items c.run_open.new.answers in
     let d = closed_book c.close-closed.result in
     let g = goes_one cs b xs n (Thread 0 0) Close Done d c.if-n-calls.false c.in-Close.is refl (close_answer b) c.close-closed.ensures in
-    let g' : Goes cs b xs n d (vec_items c.push.new.self) (n + 1) = rw c.in_ok-push.ensures.items g in
-    let h = c.in_ok-whole.ensures in
+    let g' : Goes cs b xs n d (vec_items c.push.new.self) (n + 1) = rw c.in_ok-push-in-Close.ensures.items g in
+    let h = c.in_ok-whole-in-Close.ensures in
     record { law = begin cs _ b _ xs n _ c.new-sheet.ensures c.new-answers.ensures.items c.in_ok-n.ensures.0 (g' ∙ h.0); sheet = h.1 }
 
 pub returns-in_default : goal.returns-in_default

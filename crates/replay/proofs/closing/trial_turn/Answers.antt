@@ -20,13 +20,13 @@ returns-then-i-calls c =
     let b = trial_book c.args.trial.now in
     stops_shown cs b xs c.args.i _ true c.edges.ensures c.in-Some.ensures (halts_end cs b xs c.args.i c.if-i-calls.true)
 
-pub returns-in_ok-push : goal.returns-in_ok-push
-returns-in_ok-push c =
+pub returns-in_ok-push-in-End : goal.returns-in_ok-push-in-End
+returns-in_ok-push-in-End c =
     let xs = vec_items c.args.answers.now in
     let b = trial_book c.args.trial.now in
     let p = end_in_place b (c.in-Some.first, c.in-Some.second) refl c.in-Some.ensures in
     let g = goes_one c.args.calls.now b xs c.args.i (Thread 0 0) End Done (ended b) c.if-i-calls.false c.in-End.is p (end_answer b) (end_ends b) in
-    (omega arith, rw c.in_ok-push.ensures.items g)
+    (omega arith, rw c.in_ok-push-in-End.ensures.items g)
 
 pub returns-in_default-calls : goal.returns-in_default-calls
 returns-in_default-calls c =

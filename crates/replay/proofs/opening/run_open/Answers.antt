@@ -23,4 +23,4 @@ loop-i-preserved c =
     let k = get_or cs i (Thread 0 0) in
     let e = c.in-Some.ensures in
     let g = goes_one cs (open_book c.loop-i.sheet) xs i (Thread 0 0) k c.in-Some.a (open_book c.add.new.sheet) c.loop-i-test.true refl e.0 e.1 e.2 in
-    rw c.in_ok-push.ensures.items (c.loop-i.invariant ∙ g)
+    rw c.in_ok-push-in-Some.ensures.items (c.loop-i.invariant ∙ g)
