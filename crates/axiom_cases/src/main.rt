@@ -4,7 +4,7 @@
 
 use casefile::input::read;
 use execution::execution::Execution;
-use model::interface::Model;
+use model::interface::MemoryModel;
 use model::view::View;
 use ptx::flavour::Ptx;
 use relation::{Relation, Row};
@@ -50,7 +50,7 @@ fn are_equal(one: Row, other: Row) -> bool {
 }
 
 // Asks for each row by itself, absent events and axioms past the last one included.
-fn compare_rows<M: Model>(rt: &HostRuntime, model: &M, x: &Execution) -> io::Result<()> {
+fn compare_rows<M: MemoryModel>(rt: &HostRuntime, model: &M, x: &Execution) -> io::Result<()> {
     let prepared = model.prepare(x);
     let laid = model.lay(&prepared, x.order());
     for number in 0..=8 {
@@ -65,7 +65,7 @@ fn compare_rows<M: Model>(rt: &HostRuntime, model: &M, x: &Execution) -> io::Res
 }
 
 // Tells of all axioms of a model, which has this number.
-fn tell<M: Model>(rt: &HostRuntime, number: u8, model: &M, sheet: &ClosedSheet) -> io::Result<()> {
+fn tell<M: MemoryModel>(rt: &HostRuntime, number: u8, model: &M, sheet: &ClosedSheet) -> io::Result<()> {
     let x = Execution::of(sheet);
     let prepared = model.prepare(&x);
     let laid = model.lay(&prepared, x.order());

@@ -13,7 +13,7 @@ use sheet::closed::ClosedSheet;
 
 // Thousands of completions of one sheet differ in the order of writes and fences only. So what does not rest on that order is
 // prepared once for a sheet, and what the axioms share under one order is laid out once for that order.
-pub trait Model {
+pub trait MemoryModel {
     // what does not rest on the order
     type Prepared: Copy;
 

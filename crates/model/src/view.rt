@@ -7,7 +7,7 @@ ghost use Rattle.model.specs.View.{seen, viewed, all_generic, SameMeaning, Trans
 ghost use Rattle.model.specs.Layers.{viewed_lawful};
 
 use crate::axiom_kind::AxiomKind;
-use crate::interface::Model;
+use crate::interface::MemoryModel;
 use execution::class::Class;
 use execution::execution::Execution;
 use execution::facts::{class, tied};
@@ -30,18 +30,18 @@ pub struct View<M> {
     pub below: M,
 }
 
-impl<M: Model> Model for View<M> {
+impl<M: MemoryModel> MemoryModel for View<M> {
     type Prepared = M::Prepared;
 
     type Laid = M::Laid;
 
-    ghost meaning = { λ v. viewed (M.Model.meaning v.below) };
+    ghost meaning = { λ v. viewed (M.MemoryModel.meaning v.below) };
 
-    ghost yields = { M.Model.yields };
+    ghost yields = { M.MemoryModel.yields };
 
-    ghost shows = { M.Model.shows };
+    ghost shows = { M.MemoryModel.shows };
 
-    ghost lawful = { λ v. viewed_lawful (M.Model.meaning v.below) (M.Model.lawful v.below) };
+    ghost lawful = { λ v. viewed_lawful (M.MemoryModel.meaning v.below) (M.MemoryModel.lawful v.below) };
 
     fn axioms(&self) -> usize {
         self.below.axioms()
@@ -81,13 +81,13 @@ pub fn is_generic(sheet: &ClosedSheet) -> bool
     true
 }
 
-impl<M: Model> View<M> {
+impl<M: MemoryModel> View<M> {
     // Whether the layer makes no difference to an execution: not where every event is generic. Then it means the same as the
     // model below, and so over every execution whose events are all generic.
     pub fn hides_nothing(&self, x: &Execution) -> bool
         ensures generic { result ≡ all_generic (facts x.now).events }
-        ensures same { result ≡ true → SameMeaning (viewed (meaning self.now.below)) (meaning self.now.below) (facts x.now) }
-        ensures always { Transparent (meaning self.now.below) }
+        ensures same { result ≡ true → SameMeaning (viewed (M.meaning self.now.below)) (M.meaning self.now.below) (facts x.now) }
+        ensures always { Transparent (M.meaning self.now.below) }
     {
         is_generic(x.sheet())
     }

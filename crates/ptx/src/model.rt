@@ -19,7 +19,7 @@ use execution::facts::{class, is_of, is_tied};
 use execution::reading::{Reading, are_rivals, rivals};
 use execution::tie::Tie;
 use model::axiom_kind::AxiomKind;
-use model::interface::Model;
+use model::interface::MemoryModel;
 use relation::Relation;
 use sheet::closed::ClosedSheet;
 
@@ -73,7 +73,7 @@ fn are_fences(sheet: &ClosedSheet, a: usize, b: usize) -> bool
         & !is_tied(sheet, Tie::Itself, a, b)
 }
 
-impl Model for Ptx {
+impl MemoryModel for Ptx {
     type Prepared = Basis;
 
     type Laid = Causality;

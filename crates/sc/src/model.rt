@@ -10,7 +10,7 @@ use crate::basis::{Basis, Communication};
 use execution::execution::Execution;
 use execution::reading::{Reading, are_rivals};
 use model::axiom_kind::AxiomKind;
-use model::interface::Model;
+use model::interface::MemoryModel;
 use relation::Relation;
 use sheet::closed::ClosedSheet;
 
@@ -31,7 +31,7 @@ fn torn(b: &Basis, c: &Communication) -> Relation
     c.fr.then(&c.co_plus).intersection(&b.atomic)
 }
 
-impl Model for Sc {
+impl MemoryModel for Sc {
     type Prepared = Basis;
 
     type Laid = Communication;

@@ -16,10 +16,10 @@ open_row-requires g c =
 pub returns-then-not-open_row : goal.returns-then-not-open_row
 returns-then-not-open_row g c =
     let x = facts_of (closed_book c.args.sheet.now) in
-    let f = is_open (g.M.Model.meaning c.args.m.now) x in
+    let f = is_open (g.M.MemoryModel.meaning c.args.m.now) x in
     let n = ap length c.events-a-end.ensures in
-    let m = g.M.Model.meaning c.args.m.now in
-    let laws = g.met.M.Model.lawful c.args.m.now in
+    let m = g.M.MemoryModel.meaning c.args.m.now in
+    let laws = g.met.M.MemoryModel.lawful c.args.m.now in
     record {
       listed = overfull_rows f (listed c.loop-a.pairs) (length x.events) c.loop-a.a c.loop-a.invariant (omega arith) c.if-not-open_row.ensures;
       exact = lists_open m laws x;
@@ -29,7 +29,7 @@ returns-then-not-open_row g c =
 pub loop-a-preserved : goal.loop-a-preserved
 loop-a-preserved g c =
     let x = facts_of (closed_book c.args.sheet.now) in
-    let f = is_open (g.M.Model.meaning c.args.m.now) x in
+    let f = is_open (g.M.MemoryModel.meaning c.args.m.now) x in
     c.if-not-open_row.ensures
     ∙ ap (λ (l : List (ℕ × ℕ)). l ++ open_in_row f c.loop-a.a (length x.events)) c.loop-a.invariant
     ∙ sym (rows_more f (length x.events) c.loop-a.a)
@@ -37,8 +37,8 @@ loop-a-preserved g c =
 pub returns : goal.returns
 returns g c =
     let x = facts_of (closed_book c.args.sheet.now) in
-    let f = is_open (g.M.Model.meaning c.args.m.now) x in
+    let f = is_open (g.M.MemoryModel.meaning c.args.m.now) x in
     let k : c.loop-a.a ≡ length x.events = omega (arith, ap length c.events-a-end.ensures) in
-    let m = g.M.Model.meaning c.args.m.now in
-    let laws = g.met.M.Model.lawful c.args.m.now in
+    let m = g.M.MemoryModel.meaning c.args.m.now in
+    let laws = g.met.M.MemoryModel.lawful c.args.m.now in
     record { listed = c.loop-a.invariant ∙ ap (λ (n : ℕ). open_rows f (length x.events) n) k; exact = lists_open m laws x; splits = splits m laws x }

@@ -7,4 +7,4 @@ use Rattle.completion.proofs.listing.open_pairs.Given as goal
 
 abbrev pub invariant-loop-a : goal.invariant-loop-a
 invariant-loop-a g l =
-    listed l.pairs ≡ open_rows (is_open (g.M.Model.meaning l.m) (facts_of (closed_book l.sheet))) (length (closed_book l.sheet).events) l.a
+    listed l.pairs ≡ open_rows (is_open (g.M.MemoryModel.meaning l.m) (facts_of (closed_book l.sheet))) (length (closed_book l.sheet).events) l.a

@@ -18,7 +18,7 @@ push-requires g c =
 pub returns-then-not-push : goal.returns-then-not-push
 returns-then-not-push g c =
     let b = closed_book c.args.sheet.now in
-    let f = is_open (g.M.Model.meaning c.args.m.now) (facts_of b) in
+    let f = is_open (g.M.MemoryModel.meaning c.args.m.now) (facts_of b) in
     let l = listed c.args.pairs.now in
     let n = ap length c.events-b-end.ensures in
     let full : 12 ≤ c.loop-b.pairs.count = ltb-false _ 12 (sym c.if-not-push.ensures.done) in
@@ -28,7 +28,7 @@ returns-then-not-push g c =
 pub loop-b-preserved : goal.loop-b-preserved
 loop-b-preserved g c =
     let x = facts_of (closed_book c.args.sheet.now) in
-    let f = is_open (g.M.Model.meaning c.args.m.now) x in
+    let f = is_open (g.M.MemoryModel.meaning c.args.m.now) x in
     let l = listed c.args.pairs.now in
     let a = c.args.a in
     let b = c.loop-b.b in
@@ -48,6 +48,6 @@ loop-b-preserved g c =
 pub returns : goal.returns
 returns g c =
     let x = facts_of (closed_book c.args.sheet.now) in
-    let f = is_open (g.M.Model.meaning c.args.m.now) x in
+    let f = is_open (g.M.MemoryModel.meaning c.args.m.now) x in
     let k : c.loop-b.b ≡ length x.events = omega (arith, ap length c.events-b-end.ensures) in
     c.loop-b.invariant ∙ ap (λ (n : ℕ). listed c.args.pairs.now ++ open_in_row f c.args.a n) k

@@ -7,4 +7,4 @@ use Rattle.completion.proofs.listing.open_row.Given as goal
 
 abbrev pub invariant-loop-b : goal.invariant-loop-b
 invariant-loop-b g l =
-    listed l.pairs ≡ listed l.initial.pairs ++ open_in_row (is_open (g.M.Model.meaning l.m) (facts_of (closed_book l.sheet))) l.a l.b
+    listed l.pairs ≡ listed l.initial.pairs ++ open_in_row (is_open (g.M.MemoryModel.meaning l.m) (facts_of (closed_book l.sheet))) l.a l.b

@@ -7,7 +7,7 @@ use Rattle.model.proofs.view.View.hides_nothing.Goals as goal
 
 pub returns : goal.returns
 returns g c =
-    let m = g.M.Model.meaning c.args.self.now.below in
+    let m = g.M.MemoryModel.meaning c.args.self.now.below in
     let x = c.args.x.now in
     let e = c.is_generic.ensures ∙ ap (λ (b : Book). all_generic b.events) c.sheet.ensures in
     record { generic = e; same = λ t. transparent m (facts x) x.within (sym e ∙ t); always = transparent m }
