@@ -14,7 +14,7 @@ returns-in-Acyclic c =
     }
 
 pub returns-in-Irreflexive : goal.returns-in-Irreflexive
-returns-in-Irreflexive c = record { answered = of_kind (holds c.args.rel.now) c.args.memory.now c.loop_witness.last.memory c.loop_witness.result c.in-Irreflexive.is c.loop_witness.ensures; unique = unique; spelled = spelled_out }
+returns-in-Irreflexive c = record { answered = of_kind (holds c.args.rel.now) c.args.memory.now c.loop_witness.new.memory c.loop_witness.result c.in-Irreflexive.is c.loop_witness.ensures; unique = unique; spelled = spelled_out }
 
 pub returns-in-Empty : goal.returns-in-Empty
 returns-in-Empty c = record { answered = of_kind (holds c.args.rel.now) c.args.memory.now c.pair_witness.new.memory c.pair_witness.result c.in-Empty.is c.pair_witness.ensures; unique = unique; spelled = spelled_out }

@@ -7,7 +7,7 @@ use Rattle.relation.proofs.Digits.{member_test}
 use Rattle.completion.specs.Openings.{edge_of}
 use Rattle.completion.proofs.Adding.{pair_edge, added_none, added_more, added_listed}
 use Rattle.completion.proofs.completing.complete.Goals as goal
-use Rattle.completion.proofs.completing.complete.Goals.{then_completion_i_eq1, else-completion-i-eq1}
+use Rattle.completion.proofs.completing.complete.Goals.{then-completion-i-eq1, else-completion-i-eq1}
 
 pub loop-i-init : goal.loop-i-init
 loop-i-init c = added_none (holds c.args.order.now) c.args.pairs.now.at c.args.completion
@@ -20,7 +20,7 @@ loop-i-preserved c =
     let i = c.loop-i.i in
     let p = get_or ps.at i (0, 0) in
     elim c.if-completion-i-eq1.branch [
-      | then_completion_i_eq1 w ↦
+      | then-completion-i-eq1 w ↦
           ap holds w.all-is ∙ w.add.ensures
           ∙ ap₂ ◌∪◌ c.loop-i.invariant (pair_edge p.1 p.0 (ps.highs i) (ps.lows i))
           ∙ added_more R ps.at n i true (sym (member_test n i) ∙ eq-eqb _ 1 w.if-completion-i-eq1.true)
