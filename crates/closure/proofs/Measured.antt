@@ -1,10 +1,10 @@
 -- The closure at counts of steps. Assumes nothing.
-use Rattle.std.proofs.Common.{◌≡◌, ℕ, zero, suc, ◌+◌, ◌<◌, ◌≤◌, min, Bool, true, false, cond, eqb, ◌⊎◌, List, sym, refl, ap, ◌∙◌, subst, ap₂, inl, inr, ⊎_elim, arith, eq-eqb, eqb-true}
+use Rattle.std.proofs.Common.{◌≡◌, ℕ, zero, suc, ◌+◌, ◌<◌, ◌≤◌, min, Bool, true, false, eqb, ◌⊎◌, List, sym, refl, ap, ◌∙◌, subst, inl, inr, ⊎_elim, arith, eqb-true}
 use native.Mathlib.Decide.{dec_le}
-use Rattle.closure.specs.Steps.{Laws, Under, joining, walks, table, Closed}
+use Rattle.closure.specs.Steps.{Under, joining, walks, table, Closed}
 use Rattle.closure.specs.Kinds.{capped, fewer, further}
 use Rattle.closure.specs.KindLaws.{count_laws, by_cap, capped_small}
-use Rattle.closure.specs.Ways.{Chain, one, more, long, Single, Next, Shortest, Measures}
+use Rattle.closure.specs.Ways.{Chain, one, more, long, Single, Shortest, Measures}
 use Rattle.closure.specs.declared.Count.{Count}
 use Rattle.closure.specs.declared.Count.TheVariants.{Never, Steps}
 use Rattle.closure.proofs.Order.{under_trans, chain_under_right}

@@ -1,9 +1,8 @@
 -- The closure at yes and no. Assumes nothing.
-use Rattle.std.proofs.Common.{◌≡◌, ℕ, zero, suc, ◌<◌, ◌≤◌, Bool, true, false, cond, ◌&&◌, ◌||◌, ◌⊎◌, List, Decides, sym, refl, ap, ◌∙◌, subst, inl, inr, ⊎_elim, arith}
-use Rattle.closure.specs.Steps.{Laws, Under, joining, walks, table, Closed}
+use Rattle.std.proofs.Common.{◌≡◌, ℕ, zero, suc, ◌<◌, ◌≤◌, Bool, true, false, cond, ◌&&◌, ◌||◌, ◌⊎◌, List, sym, refl, ◌∙◌, subst, inl, inr, ⊎_elim, arith}
+use Rattle.closure.specs.Steps.{Under, joining, walks, table, Closed}
 use Rattle.closure.specs.KindLaws.{reach_laws}
-use Rattle.closure.specs.Ways.{Chain, one, more, long, Yes, Reaches}
-use Rattle.closure.proofs.Order.{under_trans, chain_under_right, chain_under}
+use Rattle.closure.specs.Ways.{Chain, one, more, long, Reaches}
 use Rattle.closure.proofs.Walks.{phases, step_phases, phases_through}
 use Rattle.closure.proofs.Simple.{phases_are_walks}
 

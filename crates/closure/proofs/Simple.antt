@@ -1,9 +1,9 @@
 -- Chains that pass no event twice: no other chain adds anything, and so n steps are enough among n events. Assumes nothing.
-use Rattle.std.proofs.Common.{◌≡◌, ℕ, zero, suc, ◌+◌, ◌<◌, ◌≤◌, Bool, true, false, cond, eqb, ◌⊎◌, sym, refl, ap, ◌∙◌, subst, inl, inr, ⊎_elim, arith, eq-eqb, ne_eqb, eqb-true}
+use Rattle.std.proofs.Common.{◌≡◌, ℕ, zero, suc, ◌+◌, ◌<◌, ◌≤◌, Bool, true, false, cond, eqb, refl, ap, ◌∙◌, subst, ⊎_elim, arith, eq-eqb, ne_eqb, eqb-true}
 use borrow.Author.Tests.{eqb-false}
 use Rattle.closure.specs.Steps.{Laws, Under, joining, walks}
-use Rattle.closure.proofs.Order.{split, under_refl, under_trans, under_antisym, under_left, under_right, join_under, none_under, chain_under_left, chain_under_right, chain_under, drop_last, drop_first, joining_under, under_joining}
-use Rattle.closure.proofs.Walks.{phases, step_phases, step_walks, walks_step, walks_under, walks_none, walks_more, walks_then, walks_phases}
+use Rattle.closure.proofs.Order.{split, under_refl, under_trans, under_antisym, under_left, under_right, join_under, none_under, chain_under_right, chain_under, drop_first, joining_under, under_joining}
+use Rattle.closure.proofs.Walks.{phases, step_walks, walks_step, walks_under, walks_none, walks_more, walks_then, walks_phases}
 
 -- ---- sets of events, as tests
 abbrev Sub : (ℕ → Bool) → (ℕ → Bool) → Type 0

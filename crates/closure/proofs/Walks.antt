@@ -1,8 +1,7 @@
 -- Floyd and Warshall's phases, and the chains. Assumes nothing.
-use Rattle.std.proofs.Common.{◌≡◌, ℕ, zero, suc, ◌+◌, ◌<◌, ◌≤◌, Bool, true, false, cond, eqb, ◌⊎◌, List, [], ◌∷◌, length, sym, refl, ap, ◌∙◌, subst, inl, inr, ⊎_elim, suc-add, zero-add, arith}
-use Rattle.std.specs.List.{AllByRecursion as All}
-use Rattle.closure.specs.Steps.{Laws, Under, joining, walks, value, Within}
-use Rattle.closure.proofs.Order.{split, under_refl, under_trans, under_antisym, under_left, under_right, join_under, none_under, chain_under_left, chain_under_right, chain_under, drop_last, drop_first, joining_under, under_joining, chain_joining_under, joining_chain_under}
+use Rattle.std.proofs.Common.{◌≡◌, ℕ, zero, suc, ◌+◌, ◌<◌, ◌≤◌, sym, refl, ⊎_elim, arith}
+use Rattle.closure.specs.Steps.{Laws, Under, walks}
+use Rattle.closure.proofs.Order.{split, under_refl, under_trans, under_left, under_right, join_under, none_under, chain_under_left, chain_under_right, chain_under, drop_last, drop_first, joining_under, under_joining, joining_chain_under}
 
 -- the table after the phases below k
 unfoldable pub phases : {S : Type 0} → (S → S → S) → (S → S → S) → (ℕ → ℕ → S) → ℕ → ℕ → ℕ → S

@@ -1,6 +1,6 @@
 -- The laws of the two kinds. Assumes nothing.
 use Rattle.std.specs.Prelude.{◌≡◌, ℕ, ◌+◌, ◌<◌, ◌≤◌, min, Bool, true, false, cond, ◌&&◌, ◌||◌, nat_le, refl}
-use Rattle.std.proofs.Common.{ap, sym, subst, ◌∙◌, arith, leb-true, leb-false, le-leb}
+use Rattle.std.proofs.Common.{ap, sym, ◌∙◌, arith, leb-true, leb-false, le-leb}
 use Rattle.std.proofs.lemmas.Bool.{lt-leb}
 use Rattle.closure.specs.Steps.{Laws}
 use Rattle.closure.specs.Kinds.{capped, fewer, further}

@@ -1,6 +1,6 @@
 -- Marks by their letters, and records by their bytes.
-use Rattle.std.proofs.Common.{◌≡◌, ℕ, ◌+◌, ◌<◌, ◌≤◌, Bool, true, false, cond, ◌&&◌, eqb, List, [], ◌∷◌, ◌++◌, length, take, drop, Some, None, Option, sym, refl, ap, ◌∙◌, subst, ap₂, append_assoc, arith, length-append, length-take}
-use Rattle.std.proofs.lemmas.List.{take_at, drop_at, drop-append-le}
+use Rattle.std.proofs.Common.{◌≡◌, ℕ, ◌+◌, ◌≤◌, cond, eqb, List, [], ◌∷◌, ◌++◌, length, take, drop, Some, None, Option, sym, refl, ap, ◌∙◌, subst, ap₂, append_assoc, arith, length-append, length-take}
+use Rattle.std.proofs.lemmas.List.{take_at, drop_at}
 use Rattle.records.specs.declared.mark.Mark.{Mark}
 use Rattle.records.specs.declared.mark.Mark.TheVariants.{Thread, Event, ReadFrom, Order, Atomic, Depend, Question, End}
 use Rattle.records.specs.Format.{letters, size, Begins}

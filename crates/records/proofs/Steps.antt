@@ -1,5 +1,5 @@
 -- What the reader finds at its place, from the sign there and what is due.
-use Rattle.std.proofs.Common.{◌≡◌, ℕ, ◌+◌, ◌-◌, ◌<◌, ◌≤◌, Bool, true, false, ◌⊎◌, List, [], ◌∷◌, ◌++◌, length, take, drop, Some, None, Ok, Err, Decides, Option, Result, sym, refl, ap, ◌∙◌, subst, inl, inr, ⊎_elim, append_assoc, arith, length-drop, take-append-drop}
+use Rattle.std.proofs.Common.{◌≡◌, ℕ, ◌+◌, ◌-◌, ◌<◌, ◌≤◌, Bool, true, false, List, ◌++◌, length, take, drop, Some, None, Ok, Err, Decides, Option, sym, refl, ap, ◌∙◌, subst, inl, inr, ⊎_elim, append_assoc, arith, length-drop, take-append-drop}
 use Rattle.std.proofs.lemmas.List.{length-take-le, nil_from_length, take_rest}
 use Rattle.records.specs.declared.fault.Cause.{Cause}
 use Rattle.records.specs.declared.fault.Cause.TheVariants.{Cut, Oversize, UnknownMark, LateRow, Trailing, BadQuestion}
@@ -8,9 +8,9 @@ use Rattle.records.specs.declared.mark.Mark.TheVariants.{Thread, Event, ReadFrom
 use Rattle.records.specs.declared.mark.Sign.{Sign}
 use Rattle.records.specs.declared.mark.Sign.TheVariants.{Known, Unknown, Half, Nothing}
 use Rattle.records.specs.declared.mark.Phase.{Phase}
-use Rattle.records.specs.declared.mark.Phase.TheVariants.{Rows, Edges, Ended}
+use Rattle.records.specs.declared.mark.Phase.TheVariants.{Ended}
 use Rattle.records.specs.Format.{Here, Begins, Due, Fields, Broken, leads, size, letters}
-use Rattle.records.specs.Grammar.{Item, encode, Next}
+use Rattle.records.specs.Grammar.{Next}
 use Rattle.records.specs.Readers.{rest}
 use Rattle.records.specs.declared.reader.Reader.{Reader}
 use Rattle.records.proofs.Bytes.{part}

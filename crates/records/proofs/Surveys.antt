@@ -1,9 +1,8 @@
 -- A front of records that a reader has stepped over, and the numbers of their sorts.
-use Rattle.std.proofs.Common.{◌≡◌, ℕ, suc, ◌+◌, ◌<◌, ◌≤◌, Bool, true, false, cond, List, [], ◌∷◌, ◌++◌, length, drop, Some, None, Ok, Err, Option, Result, sym, refl, ap, ◌∙◌, subst, ap₂, append_assoc, arith, length-append}
+use Rattle.std.proofs.Common.{◌≡◌, ℕ, ◌+◌, ◌≤◌, Bool, true, false, cond, List, [], ◌∷◌, ◌++◌, length, drop, Some, None, Ok, Err, Option, Result, sym, refl, ap, ◌∙◌, subst, ap₂, append_assoc, arith, length-append}
 use Rattle.std.proofs.lemmas.List.{drop_at, drop-drop, flat_map_more, length_push}
 use Rattle.records.specs.declared.fault.Cause.{Cause}
 use Rattle.records.specs.declared.fault.Fault.{Fault}
-use Rattle.records.specs.declared.mark.Mark.{Mark}
 use Rattle.records.specs.declared.mark.Phase.{Phase}
 use Rattle.records.specs.declared.mark.Phase.TheVariants.{Rows}
 use Rattle.records.specs.declared.mark.Record.{Record}
@@ -12,7 +11,7 @@ use Rattle.records.specs.declared.survey.Tally.{Tally}
 use Rattle.records.specs.Format.{size, leads}
 use Rattle.records.specs.Grammar.{Item, encode, file, Whole, Led, Next, item, seen, over, Reading}
 use Rattle.records.specs.Readers.{rest, Fresh, Placed, Moved}
-use Rattle.records.specs.Counts.{Sort, thread, event, edge, question, end, sort, same, one, count, tally, none, noted, noted_sort, Reads}
+use Rattle.records.specs.Counts.{Sort, thread, event, edge, question, end, sort, same, one, count, tally, noted, noted_sort, Reads}
 use Rattle.records.proofs.Marks.{encode_length}
 use Rattle.records.proofs.Unique.{reading_one}
 

@@ -1,5 +1,5 @@
 -- What the operators say of a row or a relation, in the words of events and pairs.
-use Rattle.std.proofs.Common.{◌≡◌, ℕ, zero, suc, ◌<◌, ◌≤◌, Bool, true, false, not, ◌&&◌, ◌⊎◌, Some, None, Option, sym, refl, ap, ◌∙◌, subst, ⊎_elim, arith}
+use Rattle.std.proofs.Common.{◌≡◌, ℕ, zero, suc, ◌<◌, ◌≤◌, Bool, true, false, not, ◌&&◌, Some, None, Option, sym, refl, ap, ◌∙◌, subst, ⊎_elim, arith}
 use Rattle.std.proofs.lemmas.Bool.{cases_lt, cases_eq, and_from, and_parts}
 use Rattle.closure.proofs.Reached.{never}
 use Rattle.relation.specs.Algebra.{Set, Rel, some_below, least_below, or_else, beside, image, image_below, range, range_below, domain, lowest_loop, lowest_pair, lowest_pair_below, plus, ◌⨾◌}

@@ -1,7 +1,7 @@
-use Rattle.std.proofs.Common.{ℕ, ◌+◌, ◌*◌, ◌<◌, ◌≤◌, length, get_or, ap, ◌∙◌, ap₂, arith, rules}
+use Rattle.std.proofs.Common.{◌+◌, ◌*◌, ◌<◌, length, ◌∙◌, ap₂, arith, rules}
 use Rattle.std.proofs.lemmas.List.{get_or_read}
 use Rattle.closure.proofs.Places.{within}
-use Rattle.closure.proofs.Loops.{relaxed_none, relaxed_more}
+use Rattle.closure.proofs.Loops.{relaxed_more}
 use Rattle.closure.proofs.relax.Goals as goal
 
 pub offset_bounds-steps-i : goal.offset_bounds-steps-i

@@ -1,10 +1,9 @@
-use Rattle.std.proofs.Common.{◌≡◌, ◌<◌, ◌≤◌, [], ◌∷◌, ◌++◌, length, Some, None, Ok, Err, Option, Result, sym, refl, ap, ◌∙◌, subst, arith}
+use Rattle.std.proofs.Common.{◌≡◌, ◌<◌, [], ◌∷◌, ◌++◌, length, Some, None, Ok, Option, Result, ap, ◌∙◌, subst, arith}
 use Rattle.std.proofs.lemmas.Result.{err_from_is_err_and}
 use Rattle.records.specs.declared.fault.Fault.{Fault}
-use Rattle.records.specs.declared.mark.Mark.{Mark}
 use Rattle.records.specs.declared.mark.Record.{Record}
 use Rattle.records.specs.declared.survey.Tally.{Tally}
-use Rattle.records.specs.Counts.{tally, noted, Reads, thread, event, edge, question}
+use Rattle.records.specs.Counts.{noted, Reads, thread, event, edge, question}
 use Rattle.records.specs.Grammar.{Next, item, seen}
 use Rattle.records.specs.Readers.{rest, Moved}
 use Rattle.records.proofs.Surveys.{front_more, front_over, front_fault, tally_more, count_few, file_long, reads_one}

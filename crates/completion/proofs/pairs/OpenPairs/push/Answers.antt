@@ -17,7 +17,12 @@ invariant_of-self c =
     let v : ℕ × ℕ = (c.args.a, c.args.b) in
     let long : length t ≡ 12 = c.args.self.now.long in
     let h : i < length t = omega arith in
-    (length-set t i v ∙ long, (omega arith, (all_set (λ p. p.0 < 64) t i v h c.requires.0 c.args.self.now.lows, (all_set (λ p. p.1 < 64) t i v h c.requires.1 c.args.self.now.highs, tt))))
+    record {
+      long = length-set t i v ∙ long;
+      few = omega arith;
+      lows = all_set (λ p. p.0 < 64) t i v h c.requires.0 c.args.self.now.lows;
+      highs = all_set (λ p. p.1 < 64) t i v h c.requires.1 c.args.self.now.highs;
+    }
 
 pub returns : goal.returns
 returns c =
