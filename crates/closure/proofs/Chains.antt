@@ -1,13 +1,13 @@
 -- `walks` is the joining over all chains. Assumes nothing.
 use Rattle.std.proofs.Common.{◌≡◌, ℕ, zero, suc, ◌<◌, List, [], ◌∷◌, ◌++◌, map, length, sym, refl, ap, ◌∙◌, ap₂, arith}
 use Rattle.std.proofs.lemmas.List.{map-append}
-use Rattle.std.specs.List.{AllByRecursion as All}
+use Rattle.std.specs.List.{AllByRecursion}
 use Rattle.closure.specs.Steps.{Laws, Under, joining, walks, value, Within, Joins, behind, routes, joined}
 use Rattle.closure.proofs.Order.{under_trans, none_under, join_under, chain_under_right, chain_joining_under}
 use Rattle.closure.proofs.Walks.{step_walks, walks_step, walks_under, walks_none}
 
 module _ {S : Type 0} {none : S} {join chain : S → S → S} (laws : Laws none join chain) (n : ℕ) (M : ℕ → ℕ → S) where
-  value_walks : (vs : List ℕ) (k i j : ℕ) → All (λ v. v < n) vs → length vs < k → Under join (value chain M i vs j) (walks none join chain n M k i j)
+  value_walks : (vs : List ℕ) (k i j : ℕ) → AllByRecursion (λ v. v < n) vs → length vs < k → Under join (value chain M i vs j) (walks none join chain n M k i j)
   value_walks vs zero i j a l = absurd (omega arith)
   value_walks [] (suc k) i j a l = step_walks laws n M k i j
   value_walks (v ∷ vs) (suc k) i j a l =

@@ -1,6 +1,6 @@
 -- Kinds of step, and what a closure of a table of steps is. Assumes nothing.
 use Rattle.std.specs.Prelude.{◌≡◌, ℕ, zero, suc, ◌+◌, ◌*◌, ◌<◌, ◌≤◌, ◌⊎◌, List, [], ◌∷◌, ◌++◌, map, length, slice_index_or}
-use Rattle.std.specs.List.{AllByRecursion as All}
+use Rattle.std.specs.List.{AllByRecursion}
 
 -- What joining (one way or another) and chaining (one step after another) obey.
 pub record Laws {S : Type 0} (none : S) (join chain : S → S → S) : Type 0 where
@@ -39,7 +39,7 @@ value chain M i (v ∷ vs) j = chain (M i v) (value chain M v vs j)
 
 -- vs has only events below n, and a chain over it has at most k steps
 pub record Within (n k : ℕ) (vs : List ℕ) : Type 0 where
-  pub events : All (λ v. v < n) vs
+  pub events : AllByRecursion (λ v. v < n) vs
   pub few : length vs < k
 
 -- x is the joining over all chains of at most k steps from i to j: it has what each of them comes to, and no more than that

@@ -1,6 +1,6 @@
 -- The calls that leave each sheet.
 use Rattle.std.proofs.Common.{◌≡◌, List, [], ◌∷◌, ◌++◌, map, refl}
-use Rattle.std.specs.List.{AllByRecursion as All}
+use Rattle.std.specs.List.{AllByRecursion}
 use Rattle.relation.specs.Algebra.{some_below, single, none, pair, range_below, ◌∪◌}
 use Rattle.sheet.specs.Book.{Book, blank, absent, full, bad_field, cannot_carry, differ, there, refusal, accepted, after}
 use Rattle.sheet.specs.Rules.{thread_fits, lawful, decoded, fields_fit, event_of, can_read_from, can_order, can_depend, carries, values_differ}
@@ -40,7 +40,7 @@ rows_then b edges =
 by : (b : Book) (edges : List Call) → left_by blank (rows_then b edges) ≡ b → Built b
 by b edges e = (rows_then b edges, e)
 
-pub built : All Built all_sheets
+pub built : AllByRecursion Built all_sheets
 unfolding fields_of rows_then some_below single none pair range_below ◌∪◌ absent full bad_field cannot_carry differ there refusal accepted after thread_fits lawful decoded fields_fit event_of can_read_from can_order can_depend carries values_differ no_edges with_edge given_in
 built =
     by blank_sheet [] refl

@@ -1,6 +1,6 @@
 -- Small sheets, and what the models say of them. Assumes nothing.
 use Rattle.std.specs.Prelude.{◌≡◌, ℕ, true, false, List, [], ◌∷◌, None}
-use Rattle.std.specs.List.{AllByRecursion as All}
+use Rattle.std.specs.List.{AllByRecursion}
 use Rattle.relation.specs.Algebra.{range}
 use Rattle.sheet.specs.Book.{Book, blank, after}
 use Rattle.sheet.specs.Sets.{EdgeSets, no_edges, with_edge}
@@ -174,7 +174,7 @@ all_four = 0 ∷ 1 ∷ 2 ∷ 3 ∷ []
 
 pub record Worked : Type 0 where
   -- each can be built
-  pub built : All Built all_sheets
+  pub built : AllByRecursion Built all_sheets
   -- a blank sheet is allowed
   pub blank_sc : AllowedBy sc_meaning (facts_of blank_sheet) 0
   pub blank_ptx : AllowedBy plain (facts_of blank_sheet) 0
