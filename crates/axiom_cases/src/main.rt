@@ -65,7 +65,12 @@ fn compare_rows<M: MemoryModel>(rt: &HostRuntime, model: &M, x: &Execution) -> i
 }
 
 // Tells of all axioms of a model, which has this number.
-fn tell<M: MemoryModel>(rt: &HostRuntime, number: u8, model: &M, sheet: &ClosedSheet) -> io::Result<()> {
+fn tell<M: MemoryModel>(
+    rt: &HostRuntime,
+    number: u8,
+    model: &M,
+    sheet: &ClosedSheet,
+) -> io::Result<()> {
     let x = Execution::of(sheet);
     let prepared = model.prepare(&x);
     let laid = model.lay(&prepared, x.order());

@@ -1,16 +1,10 @@
 -- The edges of a sheet that have been read back so far, when they come by sort, then by first, then by second event.
-use Rattle.std.proofs.Common.{◌≡◌, ℕ, ◌+◌, ◌<◌, ◌≤◌, Bool, true, false, cond, not, ◌&&◌, ◌||◌, eqb, ltb, ◌⊎◌, List, length, None, sym, refl, ap, ◌∙◌, subst, ap₂, inl, inr, ⊎_elim, arith}
+use Rattle.std.proofs.Common.{◌≡◌, ℕ, ◌+◌, ◌<◌, Bool, true, false, ◌&&◌, ◌||◌, eqb, ltb, ◌⊎◌, sym, ap, ◌∙◌, ap₂, inl, inr, ⊎_elim, arith}
 use mathlib.Core.Path.{fun_ext}
-use Rattle.std.proofs.lemmas.Bool.{and_parts, and_from, or_cases, or_left, or_right, or_from, cases_Bool, cases_eq, true≢false, ltb-true, lt-ltb, eqb-true, eq-eqb, not-true, not-false}
-use Rattle.relation.specs.Algebra.{Rel, none, pair, range, range_below, ◌∪◌}
-use Rattle.relation.proofs.Below.{some_none}
+use Rattle.std.proofs.lemmas.Bool.{and_parts, and_from, or_cases, or_left, or_right, cases_eq, true≢false, ltb-true, lt-ltb, eqb-true, eq-eqb}
 use Rattle.relation.proofs.Laws.{same_test}
-use Rattle.sheet.specs.declared.row.Event.{Event}
 use Rattle.sheet.specs.declared.calls.Edge.{Edge}
-use Rattle.sheet.specs.declared.calls.Edge.TheVariants.{ReadFrom, Order, Atomic, Depend}
-use Rattle.sheet.specs.Fitting.{EdgesFit, OneSource, OneWay, edge_fits}
-use Rattle.sheet.specs.Rules.{carries, values_differ}
-use Rattle.sheet.specs.Sets.{EdgeSets, no_edges, same_edge, with_edge, given_in}
+use Rattle.sheet.specs.Sets.{EdgeSets, same_edge, with_edge}
 use Rattle.sheet.proofs.OneEdge.{same_sort, own_sort, with_cases, with_old, with_new}
 
 -- (x, y) comes before (i, j)

@@ -1,14 +1,11 @@
 -- What is written reads back as the same book.
-use Rattle.std.proofs.Common.{◌≡◌, ℕ, zero, suc, ◌+◌, ◌*◌, ◌/◌, ◌%◌, ◌<◌, ◌≤◌, Bool, true, false, cond, not, ◌&&◌, ◌||◌, eqb, ltb, ◌⊎◌, List, [], ◌∷◌, ◌++◌, map, length, get_or, take, Some, None, Ok, Option, sym, refl, ap, ◌∙◌, subst, ap₂, inl, inr, ⊎_elim, append_assoc, append-nil, add-one, arith, length-take}
-use Rattle.std.proofs.lemmas.List.{map-append, map_push, take_more, take_all, take-take, get_or-take, length-take-le}
-use Rattle.std.proofs.lemmas.Bool.{and_parts, and_from, ltb-true, lt-ltb}
+use Rattle.std.proofs.Common.{◌≡◌, ℕ, zero, suc, ◌+◌, ◌*◌, ◌/◌, ◌%◌, ◌<◌, ◌≤◌, Bool, true, false, cond, not, ◌&&◌, ◌||◌, ltb, List, [], ◌∷◌, ◌++◌, map, length, get_or, take, Some, None, Ok, sym, refl, ap, ◌∙◌, subst, ap₂, append_assoc, append-nil, add-one, arith}
+use Rattle.std.proofs.lemmas.List.{map_push, take_more, take_all, take-take, get_or-take, length-take-le}
+use Rattle.std.proofs.lemmas.Bool.{and_parts, ltb-true, lt-ltb}
 use Rattle.relation.specs.Algebra.{Rel}
-use Rattle.records.specs.declared.mark.Mark.{Mark}
-use Rattle.records.specs.declared.mark.Mark.TheVariants.{Event as EventMark}
-use Rattle.records.specs.declared.mark.Phase.{Phase}
 use Rattle.records.specs.declared.mark.Phase.TheVariants.{Rows, Edges, Ended}
-use Rattle.records.specs.Format.{is_row, leads}
-use Rattle.records.specs.Grammar.{Item, file, Whole, Led, Reading}
+use Rattle.records.specs.Format.{is_row}
+use Rattle.records.specs.Grammar.{Item, Led, Reading}
 use Rattle.sheet.specs.declared.words.Kind.{Kind}
 use Rattle.sheet.specs.declared.words.Kind.TheVariants.{Read, Write, MemoryFence, ProxyFence}
 use Rattle.sheet.specs.declared.words.Grade.{Grade}
@@ -26,20 +23,20 @@ use Rattle.sheet.specs.declared.calls.Call.{Call}
 use Rattle.sheet.specs.declared.calls.Call.TheVariants.{Thread as AddThread, Event as AddEvent, Close, Lay}
 use Rattle.sheet.specs.declared.closed.ClosedSheet.{ClosedSheet}
 use Rattle.sheet.specs.Words.{nth, kinds, grades, scopes, proxies, kind_code, grade_code, scope_code, proxy_code}
-use Rattle.sheet.specs.Book.{Book, blank, refusal, absent, full, bad_field, cannot_carry, differ, there, after, accepted}
+use Rattle.sheet.specs.Book.{Book, blank, absent, full, bad_field, cannot_carry, differ, there, after, accepted}
 use Rattle.sheet.specs.Fitting.{ThreadsFit, EventsFit, thread_comes, event_comes, sized}
-use Rattle.sheet.specs.Rules.{decoded, bind, fields_fit, keeps, event_of, or_none, lawful, no_thread, no_event}
+use Rattle.sheet.specs.Rules.{decoded, fields_fit, keeps, event_of, or_none, lawful, no_thread, no_event}
 use Rattle.sheet.specs.Sets.{EdgeSets, no_edges, laid, same_edge}
 use Rattle.sheet.specs.Sheets.{closed_book}
-use Rattle.sheet.proofs.Laws.{no_row, accepts}
+use Rattle.sheet.proofs.Laws.{no_row}
 use Rattle.sheet.proofs.Reading.{bind_some}
 use Rattle.records.proofs.Unique.{reading_one}
-use Rattle.casefile.specs.Calls.{calls, Taken, fields, call_of, listed, closing, onward}
+use Rattle.casefile.specs.Calls.{calls, Taken, fields, call_of, listed, onward}
 use Rattle.casefile.specs.Files.{Reads}
 use Rattle.casewriter.specs.Items.{thread_item, event_item, edge_item, end_item, mark_of, picked, edge_items, sort_items, items, file_of}
 use Rattle.casewriter.specs.Written.{FilesTell}
 use Rattle.casewriter.proofs.Parts.{part}
-use Rattle.casewriter.proofs.Taking.{taken_append, taken_one, lays, book_with, sort_taken, part_none, part_all}
+use Rattle.casewriter.proofs.Taking.{taken_append, taken_one, lays, sort_taken, part_none, part_all}
 
 -- ---- words by their codes
 

@@ -1,7 +1,7 @@
 -- The calls of a sheet's own edges are accepted, and leave these edges.
-use Rattle.std.proofs.Common.{◌≡◌, ℕ, zero, suc, ◌+◌, ◌<◌, ◌≤◌, Bool, true, false, cond, not, ◌&&◌, ◌||◌, eqb, ltb, ◌⊎◌, List, [], ◌∷◌, ◌++◌, map, length, Some, None, sym, refl, ap, ◌∙◌, subst, ap₂, inl, inr, ⊎_elim, add-one, arith}
+use Rattle.std.proofs.Common.{◌≡◌, ℕ, zero, suc, ◌+◌, ◌<◌, ◌≤◌, Bool, true, false, cond, not, ◌||◌, ltb, ◌⊎◌, List, [], ◌∷◌, ◌++◌, map, length, None, sym, refl, ap, ◌∙◌, subst, ⊎_elim, add-one, arith}
 use Rattle.std.proofs.lemmas.List.{map-append}
-use Rattle.std.proofs.lemmas.Bool.{and_parts, and_from, or_from, or_cases, or_left, or_right, cases_Bool, true≢false, ltb-true, lt-ltb, eqb-true, not-true}
+use Rattle.std.proofs.lemmas.Bool.{and_parts, and_from, or_from, or_cases, or_left, or_right, true≢false, ltb-true, eqb-true, not-true}
 use Rattle.relation.specs.Algebra.{Rel, none, range_below}
 use Rattle.relation.proofs.Below.{some_none}
 use Rattle.sheet.specs.declared.row.Thread.{Thread}
@@ -10,10 +10,10 @@ use Rattle.sheet.specs.declared.calls.Edge.{Edge}
 use Rattle.sheet.specs.declared.calls.Edge.TheVariants.{ReadFrom, Order, Atomic, Depend}
 use Rattle.sheet.specs.declared.calls.Call.{Call}
 use Rattle.sheet.specs.declared.calls.Call.TheVariants.{Lay}
-use Rattle.sheet.specs.Book.{Book, refusal, absent, full, bad_field, cannot_carry, differ, there, after, accepted, known, both_known}
+use Rattle.sheet.specs.Book.{Book, refusal, absent, full, bad_field, cannot_carry, differ, there, after, accepted}
 use Rattle.sheet.specs.Fitting.{EdgesFit, OneSource, OneWay, edge_fits}
 use Rattle.sheet.specs.Rules.{carries, values_differ}
-use Rattle.sheet.specs.Sets.{EdgeSets, no_edges, with_edge, given_in, same_edge}
+use Rattle.sheet.specs.Sets.{EdgeSets, no_edges, given_in, same_edge}
 use Rattle.sheet.proofs.Laws.{no_row, accepts}
 use Rattle.sheet.proofs.OneEdge.{same_sort, own_sort}
 use Rattle.casefile.specs.Calls.{Taken}

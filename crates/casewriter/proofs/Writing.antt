@@ -1,5 +1,5 @@
 -- Bytes put one after another, and the lengths of what is written.
-use Rattle.std.proofs.Common.{◌≡◌, ℕ, zero, suc, ◌+◌, ◌-◌, ◌*◌, ◌<◌, ◌≤◌, Bool, true, false, cond, ◌⊎◌, List, [], ◌∷◌, ◌++◌, map, length, get_or, take, drop, sym, refl, ap, ◌∙◌, subst, ap₂, inl, inr, ⊎_elim, append_assoc, append-nil, mul-zero, mul-suc, add-one, arith, length-append, length-drop, take-append-drop}
+use Rattle.std.proofs.Common.{◌≡◌, ℕ, zero, suc, ◌+◌, ◌*◌, ◌<◌, ◌≤◌, Bool, true, false, cond, List, [], ◌∷◌, ◌++◌, map, length, get_or, take, drop, sym, refl, ap, ◌∙◌, subst, ap₂, ⊎_elim, append_assoc, append-nil, mul-zero, mul-suc, add-one, arith, length-append, length-drop, take-append-drop}
 use Rattle.std.proofs.lemmas.List.{take_at, drop_at, drop-drop, length-take-le, flat_map_more, map_push, take_more, length-map}
 use Rattle.std.proofs.lemmas.Bool.{cases_lt}
 use Rattle.relation.specs.Algebra.{Rel}
@@ -9,7 +9,7 @@ use Rattle.sheet.specs.declared.row.Event.{Event}
 use Rattle.sheet.specs.declared.calls.Edge.{Edge}
 use Rattle.sheet.specs.declared.calls.Edge.TheVariants.{ReadFrom, Order, Atomic, Depend}
 use Rattle.sheet.specs.Book.{Book}
-use Rattle.casewriter.specs.Items.{thread_item, event_item, edge_item, end_item, picked, edge_items, sort_items, items, file_of}
+use Rattle.casewriter.specs.Items.{thread_item, event_item, edge_item, end_item, picked, edge_items, sort_items, file_of}
 use Rattle.casewriter.specs.Written.{Put}
 
 pub put_none : (old : List ℕ) (at : ℕ) → at ≤ length old → Put old at [] at old

@@ -1,5 +1,5 @@
 -- The records of a closed sheet's file, in their order. Assumes nothing.
-use Rattle.std.specs.Prelude.{◌≡◌, ℕ, zero, suc, Bool, cond, List, [], ◌∷◌, ◌++◌, map, length}
+use Rattle.std.specs.Prelude.{ℕ, zero, suc, Bool, cond, List, [], ◌∷◌, ◌++◌, map, length}
 use Rattle.relation.specs.Algebra.{Rel}
 use Rattle.records.specs.declared.mark.Mark.{Mark}
 use Rattle.records.specs.declared.mark.Mark.TheVariants.{Thread as ThreadMark, Event as EventMark, ReadFrom as SourceMark, Order as OrderMark, Atomic as AtomicMark, Depend as DependMark, End}

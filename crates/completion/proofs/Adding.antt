@@ -1,8 +1,8 @@
 -- The edges of a completion, one pair more.
-use Rattle.std.proofs.Common.{◌≡◌, ℕ, ◌+◌, ◌<◌, ◌≤◌, Bool, true, false, cond, ◌&&◌, ◌||◌, eqb, List, length, get_or, take, sym, refl, ap, ◌∙◌, ap₂, arith, length-take}
+use Rattle.std.proofs.Common.{◌≡◌, ℕ, ◌+◌, ◌<◌, Bool, true, false, ◌&&◌, ◌||◌, List, length, get_or, sym, refl, ap, ◌∙◌, ap₂, arith, length-take}
 use mathlib.Core.Path.{fun_ext}
 use Rattle.std.proofs.lemmas.List.{get_or-take}
-use Rattle.relation.specs.Algebra.{Rel, single, pair, some_below, ◌∪◌}
+use Rattle.relation.specs.Algebra.{Rel, pair, some_below, ◌∪◌}
 use Rattle.relation.specs.Bits.{member}
 use Rattle.relation.proofs.Below.{some_more, some_none, some_same}
 use Rattle.relation.proofs.Sets.{single_event}

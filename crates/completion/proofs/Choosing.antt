@@ -1,12 +1,12 @@
 -- A completion as a choice for each pair of a list.
-use Rattle.std.proofs.Common.{◌≡◌, ℕ, zero, suc, ◌+◌, ◌*◌, ◌/◌, ◌%◌, ◌^◌, ◌<◌, ◌≤◌, Bool, true, false, cond, ◌&&◌, ◌||◌, eqb, ◌⊎◌, List, [], ◌∷◌, length, get_or, sym, refl, ap, ◌∙◌, subst, inl, inr, ⊎_elim, le_of_suc-le-suc, not-suc-le-zero, pow-suc, arith}
+use Rattle.std.proofs.Common.{◌≡◌, ℕ, zero, suc, ◌+◌, ◌*◌, ◌/◌, ◌%◌, ◌^◌, ◌<◌, Bool, true, false, cond, ◌||◌, eqb, List, [], ◌∷◌, length, get_or, sym, refl, ap, ◌∙◌, ⊎_elim, le_of_suc-le-suc, not-suc-le-zero, pow-suc, arith}
 use mathlib.Core.Path.{fun_ext}
 use native.Mathlib.Nat.{div-div-eq-div-mul}
-use Rattle.std.proofs.lemmas.Bool.{cases_Bool, and_from, and_parts, or_left, or_right, eqb-true, eq-eqb, ne_eqb, cond-true, cond-false, both_ways, false≢true}
+use Rattle.std.proofs.lemmas.Bool.{cases_Bool, and_from, and_parts, or_left, or_right, eqb-true, eq-eqb, ne_eqb, cond-true, cond-false, both_ways}
 use Rattle.relation.specs.Algebra.{Rel, some_below}
 use Rattle.relation.specs.Bits.{member}
 use Rattle.completion.specs.Openings.{edge, edge_of, added_first, added}
-use Rattle.completion.specs.Trials.{in_list, without}
+use Rattle.completion.specs.Trials.{in_list}
 
 -- some pair of the list passes
 abbrev pub any : List (ℕ × ℕ) → (ℕ × ℕ → Bool) → Bool

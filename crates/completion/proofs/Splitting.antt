@@ -1,17 +1,17 @@
 -- Trying an open pair both ways.
-use Rattle.std.proofs.Common.{◌≡◌, ℕ, zero, suc, ◌^◌, ◌<◌, Bool, true, false, cond, not, ◌&&◌, ◌||◌, eqb, ltb, ◌⊎◌, List, [], ◌∷◌, length, get_or, sym, refl, ap, ◌∙◌, subst, inl, inr, ⊎_elim, arith}
+use Rattle.std.proofs.Common.{◌≡◌, ℕ, ◌^◌, ◌<◌, Bool, true, false, cond, not, ◌&&◌, ◌||◌, eqb, ltb, ◌⊎◌, List, length, get_or, sym, refl, ap, ◌∙◌, subst, inl, inr, ⊎_elim, arith}
 use mathlib.Core.Path.{fun_ext}
-use Rattle.std.proofs.lemmas.Bool.{cases_Bool, or_cases, and_left, and_right, and_from, and_parts, not-true, or_left, or_right, or_from, ltb-true, cond-true, cond-false, both_ways, false≢true}
+use Rattle.std.proofs.lemmas.Bool.{cases_Bool, and_right, and_parts, not-true, ltb-true, cond-true, cond-false, both_ways, false≢true}
 use Rattle.relation.specs.Algebra.{Rel, ◌∪◌}
 use Rattle.relation.specs.Bits.{member}
 use Rattle.sheet.specs.Book.{known, both_known}
 use Rattle.execution.specs.Facts.{Facts, with_order}
 use Rattle.model.specs.Meaning.{Meaning, Lawful, kind_at}
 use Rattle.violation.specs.Violations.{Breaks}
-use Rattle.completion.specs.Openings.{edge, edge_of, added, is_open, open_rows, open_pairs, completed}
+use Rattle.completion.specs.Openings.{edge, edge_of, is_open, open_pairs, completed}
 use Rattle.completion.specs.Verdicts.{Possible}
-use Rattle.completion.specs.Trials.{tried, in_list, without, Split, Splits, ListsOpen}
-use Rattle.completion.proofs.Choosing.{any, chosen, Distinct, edge_self, edge_is, added_chosen, look, look_at, number, number_below, number_bit}
+use Rattle.completion.specs.Trials.{tried, in_list, without, Splits, ListsOpen}
+use Rattle.completion.proofs.Choosing.{chosen, Distinct, edge_self, edge_is, added_chosen, look, look_at, number, number_below, number_bit}
 use Rattle.completion.proofs.Taking.{one_fewer, any_split, any_rest, in_rows, rows_in, distinct_rows, rows_without}
 
 or_assoc : (a b c : Bool) → (a || (b || c)) ≡ ((a || b) || c)

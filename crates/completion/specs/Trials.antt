@@ -1,5 +1,5 @@
 -- Trials: an open pair ordered one way, and the other. Assumes nothing.
-use Rattle.std.specs.Prelude.{◌≡◌, ℕ, suc, ◌<◌, Bool, true, false, cond, ◌&&◌, ◌||◌, ◌⊎◌, List, [], ◌∷◌, length, nat_lt}
+use Rattle.std.specs.Prelude.{◌≡◌, ℕ, suc, true, false, cond, ◌&&◌, ◌||◌, ◌⊎◌, List, [], ◌∷◌, length, nat_lt}
 use Rattle.relation.specs.Algebra.{Rel, ◌∪◌}
 use Rattle.execution.specs.Facts.{Facts, with_order}
 use Rattle.model.specs.Meaning.{Meaning, orderable}

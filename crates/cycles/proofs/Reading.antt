@@ -1,8 +1,8 @@
 -- The witness is unique, and what the rule finds. Assumes nothing.
-use Rattle.std.proofs.Common.{◌≡◌, ℕ, zero, suc, ◌+◌, ◌<◌, ◌≤◌, true, ◌⊎◌, List, [], ◌∷◌, ◌++◌, length, sym, refl, ap, ◌∙◌, subst, ap₂, inl, inr, ⊎_elim, arith, length-append}
+use Rattle.std.proofs.Common.{◌≡◌, ℕ, suc, ◌+◌, ◌<◌, ◌≤◌, true, ◌⊎◌, List, [], ◌∷◌, ◌++◌, length, sym, refl, ap, subst, ap₂, inl, inr, ⊎_elim, arith, length-append}
 use native.Mathlib.Decide.{dec_lt}
 use Rattle.relation.specs.Algebra.{Rel}
-use Rattle.cycles.specs.Cycles.{Path, Cycle, Shortest, NotAfter, Witness, On, Lowest, Greedy, Stepwise, Unique, FoundStepwise}
+use Rattle.cycles.specs.Cycles.{Path, Cycle, Shortest, NotAfter, Witness, On, Greedy, Stepwise, Unique, FoundStepwise}
 
 pub both_ways : (v w : List ℕ) → NotAfter v w → NotAfter w v → v ≡ w
 both_ways [] [] p q = refl

@@ -1,10 +1,10 @@
 -- The walk by the rule, from a table of counts. Assumes nothing.
-use Rattle.std.proofs.Common.{◌≡◌, ℕ, zero, suc, ◌+◌, ◌-◌, ◌<◌, ◌≤◌, true, ◌≢◌, ◌⊎◌, List, [], ◌∷◌, length, get_or, take, drop, set, sym, refl, ap, ◌∙◌, subst, ap₂, inl, inr, ⊎_elim, arith, length-set, get_or-set_other, get_or-set_same}
+use Rattle.std.proofs.Common.{◌≡◌, ℕ, zero, suc, ◌+◌, ◌-◌, ◌<◌, ◌≤◌, true, ◌≢◌, List, [], ◌∷◌, length, get_or, take, drop, set, sym, refl, ap, ◌∙◌, subst, ap₂, inl, inr, ⊎_elim, arith, length-set, get_or-set_other, get_or-set_same}
 use native.Mathlib.Decide.{dec_lt}
 use Rattle.std.proofs.lemmas.List.{length-take-le}
 use Rattle.std.proofs.lemmas.Bool.{cases_eq}
 use Rattle.relation.specs.Algebra.{Rel}
-use Rattle.cycles.specs.Cycles.{Inside, Path, Cycle, Shortest, NotAfter, Witness, Lowest, Greedy}
+use Rattle.cycles.specs.Cycles.{Inside, Path, Cycle, Shortest, NotAfter, Witness, Greedy}
 use Rattle.cycles.specs.Counts.{Counted, Shorter, Found, Walked}
 use Rattle.cycles.proofs.Reading.{split, greedy_first, greedy_path}
 use Rattle.cycles.proofs.Tables.{path_inside}

@@ -1,5 +1,5 @@
 -- Tables of the lengths of shortest paths. Assumes nothing.
-use Rattle.std.specs.Prelude.{◌≡◌, ℕ, suc, ◌+◌, ◌-◌, ◌*◌, ◌/◌, ◌%◌, ◌<◌, ◌≤◌, Bool, true, false, cond, ◌⊎◌, List, length, get_or, slice_index, slice_index_or}
+use Rattle.std.specs.Prelude.{◌≡◌, ℕ, suc, ◌+◌, ◌/◌, ◌%◌, ◌<◌, ◌≤◌, Bool, true, cond, ◌⊎◌, List, length, get_or, slice_index, slice_index_or}
 use Rattle.closure.specs.Steps.{table}
 use Rattle.closure.specs.declared.Count.{Count}
 use Rattle.closure.specs.declared.Count.TheVariants.{Never, Steps}

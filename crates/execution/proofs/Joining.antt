@@ -1,5 +1,5 @@
 -- Relations that join events of a list only, and how the operators keep that.
-use Rattle.std.proofs.Common.{◌≡◌, ℕ, ◌<◌, ◌≤◌, Bool, true, false, not, ◌&&◌, ltb, List, length, sym, refl, ap, ◌∙◌, ⊎_elim}
+use Rattle.std.proofs.Common.{◌≡◌, ℕ, true, not, ◌&&◌, ltb, List, length, ⊎_elim}
 use Rattle.std.proofs.lemmas.Bool.{and_parts, and_from, false≢true}
 use Rattle.closure.specs.Ways.{Chain, one, more}
 use Rattle.relation.specs.Algebra.{Set, Rel, none, cut, upto, plus, ◌∪◌, ◌∩◌, ◌∖◌, ◌⨾◌, ◌◁◌, ◌▷◌}

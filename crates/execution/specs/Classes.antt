@@ -1,5 +1,5 @@
 -- Sets of events by kind, grade and proxy. Assumes nothing.
-use Rattle.std.specs.Prelude.{ℕ, Bool, true, false, not, ◌&&◌, ◌||◌, List, length}
+use Rattle.std.specs.Prelude.{Bool, true, false, not, ◌&&◌, ◌||◌, List, length}
 use Rattle.relation.specs.Algebra.{Set, upto}
 use Rattle.sheet.specs.Rules.{at, is_read, is_write, is_sc_fence, generic}
 use Rattle.sheet.specs.declared.row.Event.{Event}

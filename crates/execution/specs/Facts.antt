@@ -1,9 +1,8 @@
 -- What a model looks at. Assumes nothing.
-use Rattle.std.specs.Prelude.{ℕ, List}
+use Rattle.std.specs.Prelude.{List}
 use Rattle.relation.specs.Algebra.{Rel}
 use Rattle.relation.specs.Meaning.{holds}
 use Rattle.sheet.specs.Book.{Book}
-use Rattle.sheet.specs.Sets.{laid}
 use Rattle.sheet.specs.Sheets.{closed_book}
 use Rattle.sheet.specs.declared.row.Event.{Event}
 use Rattle.sheet.specs.declared.row.Thread.{Thread}

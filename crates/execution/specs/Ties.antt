@@ -4,7 +4,6 @@ use Rattle.relation.specs.Algebra.{Rel, cut}
 use Rattle.sheet.specs.Rules.{at, is_read, is_write, same_address, same_thread, no_thread}
 use Rattle.sheet.specs.declared.row.Event.{Event}
 use Rattle.sheet.specs.declared.row.Thread.{Thread}
-use Rattle.sheet.specs.declared.words.Scope.{Scope}
 use Rattle.sheet.specs.declared.words.Scope.TheVariants.{Thread as Own, Block, Device, System}
 use Rattle.sheet.specs.declared.words.Proxy.{Proxy}
 use Rattle.sheet.specs.declared.words.Proxy.TheVariants.{Generic, Constant, Texture, Surface}

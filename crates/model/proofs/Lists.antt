@@ -1,5 +1,5 @@
 -- Relations of axioms as a list.
-use Rattle.std.proofs.Common.{◌≡◌, ℕ, zero, suc, ◌≤◌, List, [], ◌∷◌, length, get_or, arith}
+use Rattle.std.proofs.Common.{ℕ, zero, suc, List, [], ◌∷◌, get_or}
 use Rattle.relation.specs.Algebra.{Rel, none}
 use Rattle.sheet.specs.declared.row.Event.{Event}
 use Rattle.execution.specs.Joins.{Joins}

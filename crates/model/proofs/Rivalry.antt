@@ -1,8 +1,8 @@
 -- Different writes to one address, and other ties that go both ways.
-use Rattle.std.proofs.Common.{◌≡◌, ℕ, zero, suc, ◌<◌, Bool, true, false, not, ◌&&◌, ◌||◌, eqb, ltb, List, length, sym, refl, ap, ◌∙◌, ap₂}
+use Rattle.std.proofs.Common.{◌≡◌, ℕ, zero, suc, Bool, true, false, not, ◌&&◌, eqb, ltb, List, length, sym, refl, ap, ◌∙◌}
 use mathlib.Core.Bool.{and_comm}
 use Rattle.std.proofs.lemmas.Bool.{and_parts, and_from, or_left, ltb-true}
-use Rattle.relation.specs.Algebra.{Rel, cut, upto, ◌∖◌, ◌◁◌, ◌▷◌}
+use Rattle.relation.specs.Algebra.{cut, upto, ◌∖◌, ◌◁◌, ◌▷◌}
 use Rattle.sheet.specs.Book.{known, both_known}
 use Rattle.sheet.specs.Rules.{at, is_write, is_sc_fence, same_address, can_order, carries}
 use Rattle.sheet.specs.declared.row.Event.{Event}
@@ -11,7 +11,7 @@ use Rattle.sheet.specs.declared.calls.Edge.TheVariants.{Order}
 use Rattle.execution.specs.declared.class.Class.{Class}
 use Rattle.execution.specs.declared.class.Class.TheVariants.{Write}
 use Rattle.execution.specs.declared.tie.Tie.{Tie}
-use Rattle.execution.specs.declared.tie.Tie.TheVariants.{Location, Strong, SameProxy, Itself}
+use Rattle.execution.specs.declared.tie.Tie.TheVariants.{Location, Strong, Itself}
 use Rattle.execution.specs.Classes.{in_class, those}
 use Rattle.execution.specs.Ties.{ties, tied, is_access, covers}
 use Rattle.execution.specs.Words.{rivals}

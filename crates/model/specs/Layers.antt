@@ -1,8 +1,8 @@
 -- The laws of the view layer, and where it makes no difference.
-use Rattle.std.specs.Prelude.{◌≡◌, ℕ, zero, suc, ◌<◌, Bool, true, false, ◌&&◌, List, [], ◌∷◌, length, refl}
-use Rattle.std.proofs.Common.{sym, ap, ap₂, ◌∙◌, subst, inl, arith}
+use Rattle.std.specs.Prelude.{◌≡◌, ℕ, zero, suc, ◌<◌, Bool, true, false, List, [], ◌∷◌, length, refl}
+use Rattle.std.proofs.Common.{sym, ap, ◌∙◌, inl, arith}
 use Rattle.std.proofs.lemmas.Bool.{and_parts, and_from, ltb-true}
-use Rattle.relation.specs.Algebra.{Rel, ◌∪◌, ◌∩◌}
+use Rattle.relation.specs.Algebra.{Rel, ◌∩◌}
 use Rattle.relation.proofs.Laws.{same_pairs, in_union}
 use Rattle.sheet.specs.Book.{known}
 use Rattle.sheet.specs.Rules.{at, every, generic}
@@ -17,7 +17,7 @@ use Rattle.execution.specs.Ties.{tied, same_proxy}
 use Rattle.execution.proofs.Joining.{joins_both}
 use Rattle.execution.proofs.Tying.{tied_at}
 use Rattle.model.specs.Meaning.{Meaning, Lawful}
-use Rattle.model.specs.View.{passed, seen, viewed, all_generic, SameMeaning, Transparent}
+use Rattle.model.specs.View.{passed, seen, viewed, all_generic, Transparent}
 
 seen_sound : (x : Facts) → Sound x → Sound (seen x)
 seen_sound x s =

@@ -1,5 +1,5 @@
 -- The view layer over a model. Assumes nothing.
-use Rattle.std.specs.Prelude.{◌≡◌, ℕ, Bool, true, List}
+use Rattle.std.specs.Prelude.{◌≡◌, Bool, true, List}
 use Rattle.relation.specs.Algebra.{Rel, ◌∪◌, ◌∩◌, ◌◁◌, ◌▷◌}
 use Rattle.sheet.specs.Rules.{every, generic}
 use Rattle.sheet.specs.declared.row.Event.{Event}

@@ -1,5 +1,5 @@
 -- Peeling: what is taken out lies on no cycle, and where nothing can be taken out there is one.
-use Rattle.std.proofs.Common.{◌≡◌, ℕ, zero, suc, ◌+◌, ◌<◌, ◌≤◌, Bool, true, false, cond, not, List, [], ◌∷◌, sym, refl, ap, ◌∙◌, subst, ⊎_elim, le_refl, arith}
+use Rattle.std.proofs.Common.{◌≡◌, ℕ, zero, suc, ◌+◌, ◌<◌, ◌≤◌, Bool, true, false, not, List, [], ◌∷◌, sym, refl, ap, ◌∙◌, subst, ⊎_elim, le_refl, arith}
 use Rattle.std.proofs.lemmas.Bool.{cases_lt, lt-ltb, cases_eq, cases_Bool, false≢true, and_from, and_parts}
 use Rattle.relation.specs.Algebra.{Set, Rel, everything, both, some_below}
 use Rattle.relation.specs.Meaning.{members, holds}
@@ -10,7 +10,7 @@ use Rattle.relation.proofs.Relations.{holds_starts, holds_ends}
 use Rattle.relation.proofs.Below.{some_from, from_some}
 use Rattle.cycles.specs.Cycles.{Path, Cycle}
 use Rattle.peeling.specs.Peeling.{Cyclic, count, Off, Leads, Peeled}
-use Rattle.peeling.proofs.Counts.{without, without_here, without_other, count_without}
+use Rattle.peeling.proofs.Counts.{without, without_other, count_without}
 
 abbrev Linked : Rel → ℕ → ℕ → Type 0
 Linked R a b = (vs : List ℕ) × Path R a vs b

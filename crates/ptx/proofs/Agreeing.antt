@@ -1,15 +1,14 @@
 -- Where every event is generic, proxies make no difference.
-use Rattle.std.proofs.Common.{◌≡◌, ℕ, ◌<◌, ◌≤◌, Bool, true, ◌&&◌, eqb, List, length, get_or, sym, refl, ap, ◌∙◌, ap₂, inl, inr, ⊎_elim, arith}
-use mathlib.Core.Path.{fun_ext}
+use Rattle.std.proofs.Common.{◌≡◌, ℕ, ◌≤◌, true, List, length, get_or, sym, refl, ap, ◌∙◌, ap₂, inl, inr, ⊎_elim, arith}
 use Rattle.std.proofs.lemmas.Bool.{and_parts, and_from, eq-eqb, ltb-true}
-use Rattle.relation.specs.Algebra.{Set, Rel, none, plus, upto, ◌∪◌, ◌∩◌, ◌⨾◌, ◌◁◌, ◌▷◌}
+use Rattle.relation.specs.Algebra.{Set, Rel, none, plus, ◌∪◌, ◌∩◌, ◌⨾◌, ◌◁◌, ◌▷◌}
 use Rattle.relation.proofs.Laws.{same_pairs, in_union, of_union, in_then}
 use Rattle.sheet.specs.Book.{known}
-use Rattle.sheet.specs.Rules.{at, generic}
+use Rattle.sheet.specs.Rules.{generic}
 use Rattle.sheet.specs.declared.row.Event.{Event}
 use Rattle.sheet.specs.declared.row.Thread.{Thread}
 use Rattle.execution.specs.declared.class.Class.TheVariants.{Generic}
-use Rattle.execution.specs.declared.tie.Tie.TheVariants.{Location, Strong, SameProxy, SameBlock, Itself}
+use Rattle.execution.specs.declared.tie.Tie.TheVariants.{Location, Strong, SameProxy, Itself}
 use Rattle.execution.specs.Classes.{those}
 use Rattle.execution.specs.Facts.{Facts, with_order}
 use Rattle.execution.specs.Joins.{Joins}
@@ -17,13 +16,13 @@ use Rattle.execution.specs.Ties.{tied}
 use Rattle.execution.specs.Words.{rivals}
 use Rattle.execution.proofs.Joining.{joins_tied, joins_both}
 use Rattle.execution.proofs.Tying.{tied_at, those_at}
-use Rattle.model.specs.View.{all_generic, SameMeaning}
+use Rattle.model.specs.View.{all_generic}
 use Rattle.model.specs.Layers.{every_at, generic_same, within_whole}
 use Rattle.ptx.specs.declared.flavour.Ptx.TheVariants.{Plain, WithProxies}
-use Rattle.ptx.specs.Axioms.{ptx_axioms, ptx_meaning}
+use Rattle.ptx.specs.Axioms.{ptx_axioms}
 use Rattle.ptx.specs.Generic.{ProxiesAgree}
 use Rattle.ptx.specs.Kept.{departs, lands, crosses, kept_of, kept}
-use Rattle.ptx.specs.Ptx.{strong, poloc, fence_pairs, obs, sync, base, cause_of, cause, ptx_need}
+use Rattle.ptx.specs.Ptx.{strong, poloc, fence_pairs, base, cause_of, cause, ptx_need}
 use Rattle.ptx.specs.Laws.{joins_base}
 
 -- a generic event departs and lands at itself

@@ -1,5 +1,5 @@
 -- The six axioms of PTX. Assumes nothing.
-use Rattle.std.specs.Prelude.{ℕ, List, [], ◌∷◌, slice_index_or}
+use Rattle.std.specs.Prelude.{List, [], ◌∷◌, slice_index_or}
 use Rattle.relation.specs.Algebra.{Rel, none, plus, ◌∪◌, ◌∩◌, ◌∖◌, ◌⨾◌}
 use Rattle.execution.specs.Facts.{Facts}
 use Rattle.execution.specs.Words.{rivals, co, fr, comm}

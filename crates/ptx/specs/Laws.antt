@@ -1,10 +1,10 @@
 -- The laws of PTX.
-use Rattle.std.specs.Prelude.{◌≡◌, ℕ, Bool, true, false, not, ◌&&◌, ◌||◌, List, [], ◌∷◌, length, ◌==◌, refl}
-use Rattle.std.proofs.Common.{sym, ap, ap₂, ◌∙◌, ⊎_elim, lit≤}
+use Rattle.std.specs.Prelude.{◌≡◌, ℕ, Bool, true, not, ◌&&◌, ◌||◌, List, length, ◌==◌, refl}
+use Rattle.std.proofs.Common.{ap, ap₂, ◌∙◌, ⊎_elim, lit≤}
 use Rattle.std.proofs.Math.Bool.{and_comm}
 use Rattle.std.proofs.lemmas.Bool.{and_parts, and_from, or_cases, or_right, ltb-true}
 use Rattle.std.proofs.lemmas.List.{get_or_past}
-use Rattle.relation.specs.Algebra.{Rel, none, plus, ◌∪◌, ◌∩◌, ◌∖◌, ◌⨾◌, ◌◁◌, ◌▷◌}
+use Rattle.relation.specs.Algebra.{Rel, none, ◌∪◌, ◌∩◌, ◌∖◌}
 use Rattle.sheet.specs.Book.{known, both_known}
 use Rattle.sheet.specs.Rules.{at, is_write, is_sc_fence, same_address, can_order, carries}
 use Rattle.sheet.specs.declared.row.Event.{Event}
@@ -18,7 +18,7 @@ use Rattle.execution.specs.Classes.{those}
 use Rattle.execution.specs.Facts.{Facts, Sound}
 use Rattle.execution.specs.Joins.{Joins}
 use Rattle.execution.specs.Ties.{tied, same_proxy}
-use Rattle.execution.specs.Words.{loc, rivals, co, sc, fr, comm}
+use Rattle.execution.specs.Words.{loc, rivals}
 use Rattle.execution.proofs.Joining.{joins_tied, joins_either, joins_both, joins_other, joins_except, joins_then, joins_plus, joins_from, joins_to, joins_rivals, joins_co, joins_sc, joins_comm}
 use Rattle.execution.proofs.Tying.{tied_at}
 use Rattle.model.specs.Meaning.{Lawful, orderable}
@@ -28,7 +28,7 @@ use Rattle.ptx.specs.declared.flavour.Ptx.{Ptx}
 use Rattle.ptx.specs.declared.flavour.Ptx.TheVariants.{Plain, WithProxies}
 use Rattle.ptx.specs.Axioms.{ptx_axioms, ptx_meaning}
 use Rattle.ptx.specs.Kept.{kept_of}
-use Rattle.ptx.specs.Ptx.{strong, poloc, counted, obs, sync_of, sync, base, cause_of, cause, product, fence_pairs, ptx_need}
+use Rattle.ptx.specs.Ptx.{strong, poloc, counted, obs, sync_of, base, cause_of, cause, product, fence_pairs, ptx_need}
 
 -- ---- relations among the events of a sheet
 

@@ -1,5 +1,5 @@
 -- The relations of PTX, plain and with proxies. Assumes nothing.
-use Rattle.std.specs.Prelude.{ℕ, Bool, ◌&&◌, List}
+use Rattle.std.specs.Prelude.{◌&&◌, List}
 use Rattle.relation.specs.Algebra.{Set, Rel, plus, ◌∪◌, ◌∩◌, ◌∖◌, ◌⨾◌, ◌◁◌, ◌▷◌}
 use Rattle.sheet.specs.declared.row.Event.{Event}
 use Rattle.sheet.specs.declared.row.Thread.{Thread}

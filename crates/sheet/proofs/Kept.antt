@@ -1,16 +1,15 @@
 -- The facts that a closed sheet keeps, when an edge is laid and when one is taken out.
-use Rattle.std.proofs.Common.{◌≡◌, ℕ, ◌<◌, Bool, true, false, not, ◌&&◌, ltb, length, take, None, sym, refl, ap, ◌∙◌, subst}
+use Rattle.std.proofs.Common.{◌≡◌, ℕ, true, not, None, sym, ap, subst}
 use Rattle.std.proofs.lemmas.Bool.{and_parts, and_from, not-false}
 use Rattle.relation.proofs.Relations.{holds_first}
 use Rattle.sheet.specs.declared.calls.Edge.{Edge}
-use Rattle.sheet.specs.declared.calls.Edge.TheVariants.{ReadFrom}
 use Rattle.sheet.specs.declared.calls.Call.TheVariants.{Lay}
 use Rattle.sheet.specs.declared.closed.ClosedSheet.{ClosedSheet}
 use Rattle.sheet.specs.declared.edges.Edges.{Edges}
 use Rattle.sheet.specs.Book.{refusal, absent, cannot_carry, differ, there, known}
 use Rattle.sheet.specs.Fitting.{EdgesFit, OneSource, OneWay, edge_fits}
-use Rattle.sheet.specs.Rules.{carries, values_differ}
-use Rattle.sheet.specs.Sets.{EdgeSets, laid, with_edge, without_edge}
+use Rattle.sheet.specs.Rules.{carries}
+use Rattle.sheet.specs.Sets.{laid, with_edge, without_edge}
 use Rattle.sheet.specs.Sheets.{closed_book}
 use Rattle.sheet.proofs.Laws.{passed}
 use Rattle.sheet.proofs.OneEdge.{fit_laid, fit_undone, source_laid, source_undone, way_laid, way_undone, order_apart}

@@ -1,8 +1,8 @@
 -- One edge more, or one fewer.
-use Rattle.std.proofs.Common.{◌≡◌, ℕ, ◌<◌, Bool, true, false, cond, not, ◌&&◌, ◌||◌, eqb, ltb, ◌⊎◌, List, [], ◌∷◌, length, Some, None, Option, sym, refl, ap, ◌∙◌, subst, ap₂, inl, inr, ⊎_elim, arith}
+use Rattle.std.proofs.Common.{◌≡◌, ℕ, ◌<◌, Bool, true, false, cond, not, eqb, ◌⊎◌, List, [], ◌∷◌, Some, sym, refl, ap, ◌∙◌, ap₂, inl, inr, ⊎_elim}
 use mathlib.Core.Path.{fun_ext}
-use Rattle.std.proofs.lemmas.Bool.{cases_Bool, true≢false, eqb-true, eq-eqb, lt-ltb, or_parts, and_from, and_parts, not-true, not-false}
-use Rattle.relation.specs.Algebra.{Rel, single, pair, range, range_below, ◌∪◌, ◌∖◌}
+use Rattle.std.proofs.lemmas.Bool.{cases_Bool, true≢false, eqb-true, eq-eqb, lt-ltb, or_parts, and_from, and_parts, not-true}
+use Rattle.relation.specs.Algebra.{single, pair, range, range_below, ◌∪◌, ◌∖◌}
 use Rattle.relation.proofs.Laws.{in_union, of_union, pair_test, add_remove}
 use Rattle.relation.proofs.Below.{some_from}
 use Rattle.sheet.specs.declared.row.Event.{Event}

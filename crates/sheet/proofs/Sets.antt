@@ -1,7 +1,6 @@
 -- Edge sets by their sorts.
-use Rattle.std.proofs.Common.{◌≡◌, ℕ, Bool, true, false, cond, sym, refl, ap, ◌∙◌}
+use Rattle.std.proofs.Common.{◌≡◌}
 use mathlib.Core.Path.{fun_ext}
-use Rattle.relation.specs.Algebra.{Rel, none}
 use Rattle.sheet.specs.declared.calls.Edge.{Edge}
 use Rattle.sheet.specs.declared.calls.Edge.TheVariants.{ReadFrom, Order, Atomic, Depend}
 use Rattle.sheet.specs.Sets.{EdgeSets}

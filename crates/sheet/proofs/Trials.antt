@@ -7,7 +7,7 @@ use Rattle.sheet.specs.declared.calls.Call.TheVariants.{Lay, Try}
 use Rattle.sheet.specs.declared.closed.ClosedSheet.{ClosedSheet}
 use Rattle.sheet.specs.declared.trial.Trial.{Trial}
 use Rattle.sheet.specs.Book.{Book, refusal, absent, full, bad_field, cannot_carry, differ, there, after, accepted, ended, unless, given}
-use Rattle.sheet.specs.Sets.{EdgeSets, laid, with_edge, without_edge, given_in}
+use Rattle.sheet.specs.Sets.{EdgeSets, laid, given_in}
 use Rattle.sheet.specs.Sheets.{closed_book}
 use Rattle.sheet.specs.Trials.{trial_book}
 use Rattle.sheet.proofs.Laws.{passed, accepts, refuses, given_none, given_some}

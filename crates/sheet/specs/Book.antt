@@ -1,9 +1,7 @@
 -- The book: what a sheet holds, and what each call does to it and answers. Assumes nothing.
-use Rattle.std.specs.Prelude.{ℕ, ◌+◌, ◌<◌, ◌≤◌, Bool, true, false, cond, not, ◌&&◌, ◌||◌, List, [], ◌∷◌, ◌++◌, length, Some, None, Ok, Err, Option, Result, nat_lt}
+use Rattle.std.specs.Prelude.{ℕ, Bool, true, false, cond, not, ◌&&◌, List, [], ◌∷◌, ◌++◌, length, Some, None, Ok, Err, Option, Result, nat_lt}
 use Rattle.sheet.specs.declared.row.Thread.{Thread}
 use Rattle.sheet.specs.declared.row.Event.{Event}
-use Rattle.sheet.specs.declared.row.Fields.{Fields}
-use Rattle.sheet.specs.declared.calls.Edge.{Edge}
 use Rattle.sheet.specs.declared.calls.Edge.TheVariants.{Order}
 use Rattle.sheet.specs.declared.calls.Refusal.{Refusal}
 use Rattle.sheet.specs.declared.calls.Refusal.TheVariants.{Absent, Full, BadField, CannotCarry, ValuesDiffer, Given}

@@ -1,13 +1,13 @@
 -- The witness is unique, and what the rules spell out for each kind.
-use Rattle.std.proofs.Common.{◌≡◌, ℕ, ◌<◌, ◌≤◌, Bool, true, false, ◌⊎◌, List, [], ◌∷◌, length, take, drop, set, is_some, Some, None, Decides, Option, sym, refl, ap, ◌∙◌, subst, inl, inr, ⊎_elim, arith}
-use Rattle.std.proofs.lemmas.Bool.{cases_lt, cases_Bool, false≢true}
+use Rattle.std.proofs.Common.{◌≡◌, ℕ, ◌<◌, ◌≤◌, Bool, true, false, List, [], ◌∷◌, length, take, drop, set, is_some, Some, None, Decides, Option, sym, refl, ◌∙◌, subst, inl, inr, ⊎_elim, arith}
+use Rattle.std.proofs.lemmas.Bool.{cases_lt, false≢true}
 use Rattle.relation.specs.Algebra.{Rel}
 use Rattle.relation.specs.Reading.{LowestLoop as LoopFound, LowestPair as PairFound}
-use Rattle.cycles.specs.Cycles.{Cycle, NotAfter, Shortest, Witness as CycleWitness, Shown as CycleShown, Answered as CycleAnswered}
+use Rattle.cycles.specs.Cycles.{NotAfter, Witness as CycleWitness, Answered as CycleAnswered}
 use Rattle.cycles.proofs.Reading.{both_ways, stepwise}
 use Rattle.model.specs.declared.axiom_kind.AxiomKind.{AxiomKind}
 use Rattle.model.specs.declared.axiom_kind.AxiomKind.TheVariants.{Acyclic, Irreflexive, Empty}
-use Rattle.violation.specs.Violations.{Loop, Related, Violation, Breaks, Witness, Shown, Answered, Unique, LowestLoop, LowestPair, Told, SpelledOut}
+use Rattle.violation.specs.Violations.{Loop, Related, Breaks, Witness, Shown, Answered, Unique, LowestLoop, LowestPair, SpelledOut}
 
 pub unique : Unique
 unique k R v w p q =

@@ -1,9 +1,9 @@
-use Rattle.std.proofs.Common.{◌≡◌, ℕ, ◌<◌, ◌≤◌, List, map, length, take, sym, ap, ◌∙◌, subst, arith}
+use Rattle.std.proofs.Common.{ℕ, List, map, take, ap, subst, arith}
 use Rattle.std.proofs.lemmas.List.{length-take-le, take_all}
 use Rattle.records.specs.Grammar.{file}
 use Rattle.casewriter.specs.Items.{event_item}
 use Rattle.casewriter.specs.Written.{Put}
-use Rattle.casewriter.proofs.Writing.{put_none, put_more, moved, rows_more, events_length}
+use Rattle.casewriter.proofs.Writing.{put_none, put_more, rows_more, events_length}
 use Rattle.casewriter.proofs.put_events.Goals as goal
 
 pub loop-i-init : goal.loop-i-init

@@ -1,4 +1,4 @@
-use Rattle.std.proofs.Common.{◌≡◌, ℕ, ◌+◌, ◌≤◌, List, length, take, sym, ap, ◌∙◌, subst, arith, length-take}
+use Rattle.std.proofs.Common.{◌+◌, ◌≤◌, List, length, sym, ap, ◌∙◌, subst, arith, length-take}
 use Rattle.records.specs.Grammar.{Item, file}
 use Rattle.sheet.specs.Sets.{EdgeSets}
 use Rattle.sheet.specs.Sheets.{closed_book}

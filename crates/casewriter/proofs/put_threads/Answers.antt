@@ -1,9 +1,9 @@
-use Rattle.std.proofs.Common.{◌≡◌, ℕ, ◌<◌, ◌≤◌, List, map, length, take, sym, ap, ◌∙◌, subst, arith}
+use Rattle.std.proofs.Common.{ℕ, List, map, take, ap, subst, arith}
 use Rattle.std.proofs.lemmas.List.{length-take-le, take_all}
 use Rattle.records.specs.Grammar.{file}
 use Rattle.casewriter.specs.Items.{thread_item}
 use Rattle.casewriter.specs.Written.{Put}
-use Rattle.casewriter.proofs.Writing.{put_none, put_more, moved, rows_more, threads_length}
+use Rattle.casewriter.proofs.Writing.{put_more, rows_more, threads_length}
 use Rattle.casewriter.proofs.put_threads.Goals as goal
 
 pub put_thread-at-requires : goal.put_thread-at-requires

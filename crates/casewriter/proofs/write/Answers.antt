@@ -1,10 +1,9 @@
-use Rattle.std.proofs.Common.{◌≡◌, ℕ, ◌+◌, ◌≤◌, List, map, length, Ok, sym, refl, ap, ◌∙◌, subst, arith}
+use Rattle.std.proofs.Common.{ℕ, List, map, length, Ok, sym, refl, ap, ◌∙◌, subst, arith}
 use Rattle.records.specs.Grammar.{file}
 use Rattle.sheet.specs.declared.row.Thread.{Thread}
 use Rattle.sheet.specs.declared.row.Event.{Event}
 use Rattle.sheet.specs.Sheets.{closed_book}
 use Rattle.casewriter.specs.Items.{thread_item, event_item}
-use Rattle.casewriter.specs.Written.{Put}
 use Rattle.casewriter.proofs.Writing.{file_length, put_file, put_front, put_length, moved}
 use Rattle.casewriter.proofs.Return.{reads_back, files_tell}
 use Rattle.casefile.specs.Files.{Reads}

@@ -1,4 +1,4 @@
-use Rattle.std.proofs.Common.{◌≡◌, ◌<◌, ◌≢◌, length, ap, ◌∙◌, arith, get_or-set_other, get_or-set_same, below_more}
+use Rattle.std.proofs.Common.{◌<◌, ◌≢◌, length, ap, ◌∙◌, arith, get_or-set_other, get_or-set_same, below_more}
 use Rattle.closure.specs.declared.Count.TheVariants.{Never}
 use Rattle.cycles.specs.Counts.{step_if}
 use Rattle.cycles.proofs.single_steps.Goals as goal

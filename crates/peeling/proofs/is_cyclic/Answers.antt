@@ -1,9 +1,7 @@
-use Rattle.std.proofs.Common.{◌≡◌, ℕ, ◌<◌, ◌≤◌, Bool, true, false, not, sym, refl, ap, ◌∙◌, ⊎_elim, arith}
-use Rattle.std.proofs.lemmas.Bool.{cases_lt, cases_Bool, lt-ltb, false≢true}
-use Rattle.relation.specs.Algebra.{Set, everything, some_below}
+use Rattle.std.proofs.Common.{◌≡◌, not, sym, ap, ◌∙◌, arith}
+use Rattle.relation.specs.Algebra.{some_below}
 use Rattle.relation.specs.Meaning.{members, holds}
-use Rattle.relation.proofs.Below.{some_from, from_some}
-use Rattle.relation.proofs.Sets.{members_past}
+use Rattle.relation.proofs.Below.{from_some}
 use Rattle.peeling.proofs.Rounds.{off_all, cycle_in, some_live, members_below, not_not}
 use Rattle.peeling.proofs.is_cyclic.Goals as goal
 

@@ -1,9 +1,7 @@
-use Rattle.std.proofs.Common.{◌≡◌, ℕ, ◌+◌, ◌-◌, ◌<◌, Bool, true, false, not, ◌&&◌, sym, refl, ap, ◌∙◌, subst, arith}
+use Rattle.std.proofs.Common.{◌≡◌, ℕ, ◌+◌, ◌-◌, Bool, true, false, not, ◌&&◌, sym, ap, ◌∙◌, subst, arith}
 use Rattle.std.proofs.lemmas.Bool.{and_parts}
 use Rattle.relation.specs.Algebra.{Set, both, some_below}
 use Rattle.relation.specs.Meaning.{members, holds}
-use Rattle.relation.specs.declared.Row.{Row}
-use Rattle.relation.specs.declared.Relation.{Relation}
 use Rattle.relation.proofs.Sets.{members_past}
 use Rattle.peeling.specs.Peeling.{Peeled}
 use Rattle.peeling.proofs.Rounds.{peeled_none, peeled_out, peeled_keep, ends_below, not_not}

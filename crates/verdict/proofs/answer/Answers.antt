@@ -1,5 +1,4 @@
-use Rattle.std.proofs.Common.{◌≡◌, ℕ, Some, None, sym, arith}
-use Rattle.records.specs.declared.fault.Cause.{Cause}
+use Rattle.std.proofs.Common.{◌≡◌, ℕ, Some, None, arith}
 use Rattle.records.proofs.Unique.{reading_one}
 use Rattle.verdict.proofs.answer.Goals as goal
 

@@ -1,7 +1,7 @@
-use Rattle.std.proofs.Common.{refl, arith}
+use Rattle.std.proofs.Common.{arith}
 use Rattle.relation.specs.Meaning.{holds}
 use Rattle.relation.proofs.Relations.{holds_first}
-use Rattle.violation.proofs.Telling.{loop_shown, loop_decides}
+use Rattle.violation.proofs.Telling.{loop_shown}
 use Rattle.violation.proofs.loop_witness.Goals as goal
 
 pub overflow_cast-memory : goal.overflow_cast-memory

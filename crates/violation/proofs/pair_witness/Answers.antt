@@ -1,4 +1,4 @@
-use Rattle.std.proofs.Common.{refl, arith}
+use Rattle.std.proofs.Common.{arith}
 use Rattle.relation.specs.Meaning.{holds}
 use Rattle.relation.proofs.Relations.{holds_first, holds_second}
 use Rattle.violation.proofs.Telling.{pair_shown}

@@ -1,4 +1,3 @@
-use Rattle.std.proofs.Common.{sym}
 use Rattle.relation.specs.Meaning.{holds}
 use Rattle.violation.proofs.Telling.{unique, spelled_out, cycle_answered, of_kind}
 use Rattle.violation.proofs.witness.Goals as goal

@@ -1,10 +1,8 @@
-use Rattle.std.proofs.Common.{◌≡◌, ℕ, Bool, true, false, get_or, sym, ap, ◌∙◌, ap₂, arith}
+use Rattle.std.proofs.Common.{true, false, get_or, sym, ap, ◌∙◌, ap₂, arith}
 use Rattle.std.proofs.lemmas.Bool.{eq-eqb, ne_eqb}
 use Rattle.relation.specs.Algebra.{Rel, ◌∪◌}
-use Rattle.relation.specs.Bits.{member}
 use Rattle.relation.specs.Meaning.{holds}
 use Rattle.relation.proofs.Digits.{member_test}
-use Rattle.completion.specs.Openings.{edge_of}
 use Rattle.completion.proofs.Adding.{pair_edge, added_none, added_more, added_listed}
 use Rattle.completion.proofs.completing.complete.Goals as goal
 use Rattle.completion.proofs.completing.complete.Goals.{then-completion-i-eq1, else-completion-i-eq1}

@@ -1,4 +1,4 @@
-use Rattle.std.proofs.Common.{◌≡◌, Bool, not, ◌&&◌, ap, ◌∙◌, ap₂}
+use Rattle.std.proofs.Common.{Bool, not, ◌&&◌, ap, ◌∙◌, ap₂}
 use Rattle.relation.specs.Algebra.{Rel}
 use Rattle.sheet.specs.declared.calls.Edge.TheVariants.{Order}
 use Rattle.execution.proofs.Edging.{edges_at}

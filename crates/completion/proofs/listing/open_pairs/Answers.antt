@@ -1,4 +1,4 @@
-use Rattle.std.proofs.Common.{◌≡◌, ℕ, List, ◌++◌, length, sym, refl, ap, ◌∙◌, subst, arith, length-take}
+use Rattle.std.proofs.Common.{◌≡◌, ℕ, List, ◌++◌, length, sym, ap, ◌∙◌, arith, length-take}
 use Rattle.sheet.specs.Sheets.{closed_book}
 use Rattle.execution.specs.Facts.{facts_of}
 use Rattle.completion.specs.Openings.{is_open, open_in_row, open_rows}

@@ -1,5 +1,5 @@
-use Rattle.std.proofs.Common.{◌≡◌, ℕ, ◌≤◌, min, length, ap, ◌∙◌, arith, length-take}
-use Rattle.relation.specs.Algebra.{Rel, cut}
+use Rattle.std.proofs.Common.{ℕ, ◌≤◌, min, length, ap, ◌∙◌, arith, length-take}
+use Rattle.relation.specs.Algebra.{cut}
 use Rattle.sheet.specs.Sheets.{closed_book}
 use Rattle.execution.specs.Ties.{tied}
 use Rattle.execution.proofs.Tying.{tied_whole}

@@ -1,4 +1,4 @@
-use Rattle.std.proofs.Common.{◌≡◌, ◌≤◌, length, sym, ap, ◌∙◌, arith, length-take}
+use Rattle.std.proofs.Common.{◌≤◌, length, sym, ap, ◌∙◌, arith, length-take}
 use Rattle.sheet.specs.Book.{Book}
 use Rattle.execution.specs.Facts.{facts}
 use Rattle.model.specs.View.{all_generic}

@@ -1,4 +1,4 @@
-use Rattle.std.proofs.Common.{◌≡◌, sym, ◌∙◌}
+use Rattle.std.proofs.Common.{sym, ◌∙◌}
 use Rattle.sheet.specs.Rules.{decoded}
 use Rattle.sheet.proofs.Reading.{bind_none, bind_some}
 use Rattle.sheet.proofs.rules.decode.Goals as goal

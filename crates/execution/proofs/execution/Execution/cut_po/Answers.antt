@@ -1,4 +1,4 @@
-use Rattle.std.proofs.Common.{◌≡◌, sym, ap, ◌∙◌}
+use Rattle.std.proofs.Common.{sym, ap, ◌∙◌}
 use Rattle.relation.specs.Algebra.{Rel}
 use Rattle.relation.specs.Meaning.{holds}
 use Rattle.sheet.specs.Sheets.{closed_book}

@@ -1,4 +1,4 @@
-use Rattle.std.proofs.Common.{◌≡◌, true, sym, ap, ◌∙◌}
+use Rattle.std.proofs.Common.{sym, ap, ◌∙◌}
 use Rattle.relation.specs.Algebra.{Rel}
 use Rattle.sheet.specs.Sheets.{closed_book}
 use Rattle.execution.specs.declared.tie.Tie.TheVariants.{ProgramOrder}

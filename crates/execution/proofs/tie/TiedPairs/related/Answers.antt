@@ -1,4 +1,4 @@
-use Rattle.std.proofs.Common.{◌≡◌, Bool, false, List, length, sym, ap, ◌∙◌, subst, ap₂, ⊎_elim, arith}
+use Rattle.std.proofs.Common.{List, length, ap, ◌∙◌, ap₂, ⊎_elim, arith}
 use Rattle.sheet.specs.declared.row.Event.{Event}
 use Rattle.sheet.specs.declared.row.Thread.{Thread}
 use Rattle.execution.specs.Ties.{tied}

@@ -1,9 +1,8 @@
-use Rattle.std.proofs.Common.{◌≡◌, ℕ, true, false, sym, ap, ◌∙◌}
+use Rattle.std.proofs.Common.{◌≡◌, ap, ◌∙◌}
 use Rattle.relation.specs.Algebra.{Rel}
 use Rattle.relation.specs.Meaning.{holds, members}
-use Rattle.execution.specs.Facts.{Facts, facts, with_order}
+use Rattle.execution.specs.Facts.{facts, with_order}
 use Rattle.execution.proofs.Joining.{execution_sound}
-use Rattle.model.specs.Meaning.{Meaning}
 use Rattle.model.proofs.Blank.{past_blank, absent_blank}
 use Rattle.model.proofs.interface.MemoryModel.row.Goals as goal
 

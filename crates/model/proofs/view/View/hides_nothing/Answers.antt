@@ -1,4 +1,4 @@
-use Rattle.std.proofs.Common.{◌≡◌, sym, ap, ◌∙◌}
+use Rattle.std.proofs.Common.{sym, ap, ◌∙◌}
 use Rattle.sheet.specs.Book.{Book}
 use Rattle.execution.specs.Facts.{facts}
 use Rattle.model.specs.View.{all_generic}

@@ -1,6 +1,6 @@
 use Rattle.std.proofs.Common.{rules}
 use Rattle.execution.specs.Facts.{facts}
-use Rattle.ptx.proofs.Basing.{Based, based_yields}
+use Rattle.ptx.proofs.Basing.{based_yields}
 use Rattle.ptx.proofs.model.PtxMemoryModel.prepare.Goals as goal
 
 pub returns : goal.returns

@@ -1,4 +1,4 @@
-use Rattle.std.proofs.Common.{not, take, sym, refl, ap, ◌∙◌}
+use Rattle.std.proofs.Common.{not, take, refl, ap, ◌∙◌}
 use native.Mathlib.Nat.{sub-zero}
 use Rattle.std.proofs.lemmas.Bool.{eq-eqb}
 use Rattle.sheet.specs.Rules.{is_next}

@@ -1,4 +1,4 @@
-use Rattle.std.proofs.Common.{◌≡◌, true, false, not, ◌&&◌, sym, refl, ap, ◌∙◌}
+use Rattle.std.proofs.Common.{not, sym, refl, ap}
 use Rattle.sheet.specs.declared.calls.Refusal.TheVariants.{Absent, CannotCarry, ValuesDiffer, Given}
 use Rattle.sheet.specs.declared.calls.Call.TheVariants.{Lay}
 use Rattle.sheet.specs.Sheets.{closed_book}

@@ -1,4 +1,4 @@
-use Rattle.std.proofs.Common.{◌≡◌, sym, refl, ap, ◌∙◌}
+use Rattle.std.proofs.Common.{refl}
 use Rattle.sheet.specs.Book.{absent, full, bad_field, cannot_carry, differ, there, accepted}
 use Rattle.sheet.specs.declared.calls.Call.TheVariants.{Close}
 use Rattle.sheet.specs.Sheets.{open_book}

@@ -1,10 +1,10 @@
-use Rattle.std.proofs.Common.{◌≡◌, ◌<◌, ◌≤◌, true, false, not, ltb, length, take, Some, None, Ok, sym, refl, ap, ◌∙◌, arith, length-set}
+use Rattle.std.proofs.Common.{◌≡◌, not, ltb, length, Ok, sym, refl, ap, ◌∙◌, arith, length-set}
 use Rattle.std.proofs.lemmas.List.{length-take-le, take_more_set}
 use Rattle.std.proofs.lemmas.Bool.{le-ltb, lt-ltb, and_from}
 use Rattle.sheet.specs.declared.calls.Refusal.TheVariants.{Absent, Full, BadField}
 use Rattle.sheet.specs.declared.calls.Call.TheVariants.{Event as AddEvent}
 use Rattle.sheet.specs.Fitting.{event_comes}
-use Rattle.sheet.specs.Rules.{fields_fit, event_of, decoded, keeps, or_none, no_event}
+use Rattle.sheet.specs.Rules.{no_event}
 use Rattle.sheet.specs.Sheets.{open_book}
 use Rattle.sheet.specs.Book.{absent, full, bad_field, cannot_carry, differ, there, accepted}
 use Rattle.sheet.proofs.Laws.{row_1, row_2, row_3, no_row, refuses, accepts}

@@ -1,7 +1,6 @@
-use Rattle.std.proofs.Common.{sym, refl, ap, ◌∙◌}
+use Rattle.std.proofs.Common.{refl, ap, ◌∙◌}
 use Rattle.sheet.specs.declared.calls.Edge.TheVariants.{Order}
-use Rattle.sheet.specs.Book.{ended, out}
-use Rattle.sheet.specs.Sets.{laid}
+use Rattle.sheet.specs.Book.{ended}
 use Rattle.sheet.specs.Sheets.{closed_book}
 use Rattle.sheet.proofs.Kept.{facts_undone}
 use Rattle.sheet.proofs.trial.Trial.drop.Goals as goal
