@@ -8,7 +8,7 @@ use model::interface::MemoryModel;
 use model::view::View;
 use ptx::flavour::Ptx;
 use relation::{Relation, Row};
-use sc::model::Sc;
+use sc::axioms::Sc;
 use sheet::closed::ClosedSheet;
 use std::io;
 use std::io::Read;

@@ -1,7 +1,7 @@
 use Rattle.std.proofs.Common.{rules}
 use Rattle.relation.specs.Algebra.{◌∖◌}
 use Rattle.ptx.specs.Ptx.{product, fence_pairs}
-use Rattle.ptx.proofs.model.are_fences.Goals as goal
+use Rattle.ptx.proofs.axioms.are_fences.Goals as goal
 
 pub returns : goal.returns
 unfolding fence_pairs product ◌∖◌

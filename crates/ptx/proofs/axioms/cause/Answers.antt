@@ -1,6 +1,6 @@
 use Rattle.std.proofs.Common.{rules}
 use Rattle.ptx.specs.Ptx.{cause_of}
-use Rattle.ptx.proofs.model.cause.Goals as goal
+use Rattle.ptx.proofs.axioms.cause.Goals as goal
 
 pub returns : goal.returns
 unfolding cause_of

@@ -1,7 +1,7 @@
 use Rattle.std.proofs.Common.{rules}
 use Rattle.relation.specs.Algebra.{◌∪◌, ◌∩◌}
 use Rattle.ptx.specs.Ptx.{ptx_need}
-use Rattle.ptx.proofs.model.PtxMemoryModel.needs.Goals as goal
+use Rattle.ptx.proofs.axioms.PtxMemoryModel.needs.Goals as goal
 
 pub returns : goal.returns
 unfolding ptx_need ◌∪◌ ◌∩◌

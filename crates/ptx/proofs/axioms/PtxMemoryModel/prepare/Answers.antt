@@ -1,7 +1,7 @@
 use Rattle.std.proofs.Common.{rules}
 use Rattle.execution.specs.Facts.{facts}
 use Rattle.ptx.proofs.Basing.{based_yields}
-use Rattle.ptx.proofs.model.PtxMemoryModel.prepare.Goals as goal
+use Rattle.ptx.proofs.axioms.PtxMemoryModel.prepare.Goals as goal
 
 pub returns : goal.returns
 returns c =
