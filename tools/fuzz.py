@@ -3,10 +3,10 @@
 
     tools/fuzz.py [COUNT] [SEED] [--framing] [--program WORD ...]
 
-COUNT files (3000 if left out) are made from SEED (1 if left out), each is the input of target/bin/verdict, or of the
-program that the words after --program call. With --framing no file is made for the sake of its sheet, and the lines are
-compared with tools/splitter.py, which knows no sheet. The status is 1 if a line differs, the program ends with a status
-other than 0 or by a signal, or runs for more than 5 seconds.
+COUNT files (3000 if left out) are made from SEED (1 if left out), each is the input of the program that ./run builds, which
+is built first where it is not there or older than its sources, or of the program that the words after --program call. With
+--framing no file is made for the sake of its sheet, and the lines are compared with tools/splitter.py, which knows no sheet.
+The status is 1 if a line differs, the program ends with a status other than 0 or by a signal, or runs for more than 5 seconds.
 """
 
 import argparse
@@ -22,6 +22,7 @@ import checker
 import splitter
 
 ROOT = os.path.dirname(os.path.dirname(os.path.abspath(__file__)))
+PROGRAM = os.path.join(ROOT, "crates", "verdict", "out", "verdict")
 SECONDS = 5
 SHOWN = 10
 
@@ -486,13 +487,20 @@ def arguments():
     parser.add_argument("count", nargs="?", type=int, default=3000)
     parser.add_argument("seed", nargs="?", type=int, default=1)
     parser.add_argument("--framing", action="store_true", help="compare with the splitter")
-    parser.add_argument("--program", nargs=argparse.REMAINDER, default=[os.path.join(ROOT, "target", "bin", "verdict")])
+    parser.add_argument("--program", nargs=argparse.REMAINDER, help="compare this program in place of verdict")
     return parser.parse_args()
+
+
+def built():
+    """The words that call the program of ./run, which is built by calling ./run once."""
+    subprocess.run([os.path.join(ROOT, "run")], stdout=subprocess.DEVNULL, check=True)
+    return [PROGRAM]
 
 
 def main():
     given = arguments()
-    agreed, kinds, differences = compare(given.program, given.count, given.seed, given.framing)
+    program = given.program or built()
+    agreed, kinds, differences = compare(program, given.count, given.seed, given.framing)
     print(f"{agreed} agreed, {len(differences)} differ")
     for kind in sorted(kinds):
         print(f"  {kind}: {kinds[kind]}")
