@@ -46,7 +46,7 @@ pub loop_says : (r : Relation) (o : Option ℕ) → o ≡ lowest_loop (holds r) 
 unfolding lowest_loop
 loop_says r o e = subst (LowestLoop (holds r)) (sym e) (least_reads (λ i. holds r i i) (λ i l. holds_starts r i i l))
 
--- what lowest-pair-below answers
+-- what lowest_pair_below answers
 abbrev PairOr : ℕ → Rel → Option (ℕ × ℕ) → Type 0
 PairOr n r (Some p) = LowestPair r (Some p)
 PairOr n r None = (k j : ℕ) → k < n → r k j ≡ false
