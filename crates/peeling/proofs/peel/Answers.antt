@@ -20,8 +20,7 @@ loop-k-preserved c =
     let L = members c.loop-k.live in
     let k = c.loop-k.k - 1 in
     let next : c.loop-k.k ≡ k + 1 = omega (arith, c.loop-k-test.true) in
-    let e : c.is_empty.result ≡ not (some_below 64 (both (R k) L)) =
-    c.is_empty.ensures.is ∙ ap (λ (S : Set). not (some_below 64 S)) (c.intersection.ensures ∙ ap (λ (S : Set). both S L) c.row.ensures) in
+    let e : c.is_empty.result ≡ not (some_below 64 (both (R k) L)) = cc in
     peeled_keep R (members c.args.live.now) L c.loop-k.removed k
     (λ h. sym (not_not (some_below 64 (both (R k) L))) ∙ ap not (sym e ∙ and_else c.has.result c.is_empty.result c.if-has-is_empty.false (c.has.ensures ∙ h)))
     (subst (Peeled R (members c.args.live.now) L c.loop-k.removed) next c.loop-k.invariant)
@@ -32,8 +31,7 @@ loop-k-preserved-then-has-is_empty c =
     let L = members c.loop-k.live in
     let k = c.loop-k.k - 1 in
     let next : c.loop-k.k ≡ k + 1 = omega (arith, c.loop-k-test.true) in
-    let e : c.is_empty.result ≡ not (some_below 64 (both (R k) L)) =
-    c.is_empty.ensures.is ∙ ap (λ (S : Set). not (some_below 64 S)) (c.intersection.ensures ∙ ap (λ (S : Set). both S L) c.row.ensures) in
+    let e : c.is_empty.result ≡ not (some_below 64 (both (R k) L)) = cc in
     let t = and_parts c.has.result c.is_empty.result c.if-has-is_empty.true in
     subst (λ (S : Set). Peeled R (members c.args.live.now) S true k) (sym c.without.ensures)
     (peeled_out R (members c.args.live.now) L c.loop-k.removed k (ends_below c.args.rel.now) (omega (arith, c.loop-k.auto.k))

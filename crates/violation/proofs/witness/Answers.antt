@@ -1,3 +1,4 @@
+use Rattle.std.proofs.Common.{rules}
 use Rattle.relation.specs.Meaning.{holds}
 use Rattle.violation.proofs.Telling.{unique, spelled_out, cycle_answered, of_kind}
 use Rattle.violation.proofs.witness.Goals as goal
@@ -13,7 +14,7 @@ returns-in-Acyclic c =
     }
 
 pub returns-in-Irreflexive : goal.returns-in-Irreflexive
-returns-in-Irreflexive c = record { answered = of_kind (holds c.args.rel.now) c.args.memory.now c.loop_witness.new.memory c.loop_witness.result c.in-Irreflexive.is c.loop_witness.ensures; unique = unique; spelled = spelled_out }
+returns-in-Irreflexive c = record { answered = of_kind (holds c.args.rel.now) c.args.memory.now _ _ c.in-Irreflexive.is (search rules); unique = unique; spelled = spelled_out }
 
 pub returns-in-Empty : goal.returns-in-Empty
-returns-in-Empty c = record { answered = of_kind (holds c.args.rel.now) c.args.memory.now c.pair_witness.new.memory c.pair_witness.result c.in-Empty.is c.pair_witness.ensures; unique = unique; spelled = spelled_out }
+returns-in-Empty c = record { answered = of_kind (holds c.args.rel.now) c.args.memory.now _ _ c.in-Empty.is (search rules); unique = unique; spelled = spelled_out }
