@@ -3,6 +3,7 @@
 #![tactic(auto)]
 
 use casefile::input::read;
+use cases::Cases;
 use execution::execution::Execution;
 use model::interface::MemoryModel;
 use model::view::View;
@@ -20,15 +21,10 @@ const FEW: usize = 6;
 
 // Prints the members of a row, with commas between them.
 fn print_row(rt: &HostRuntime, row: Row) -> io::Result<()> {
-    let mut before = false;
-    for event in 0..64 {
-        if row.has(event) {
-            if before {
-                print!(rt; ",")?;
-            }
-            print!(rt; "{event}")?;
-            before = true;
-        }
+    let members = (0..64).filter(|event| row.has(*event));
+    for (count, event) in members.enumerate() {
+        let comma = if count == 0 { "" } else { "," };
+        print!(rt; "{comma}{event}")?;
     }
     Ok(())
 }
@@ -45,9 +41,7 @@ fn print_rows(rt: &HostRuntime, relation: &Relation) -> io::Result<()> {
     println!(rt; "")
 }
 
-fn are_equal(one: Row, other: Row) -> bool {
-    one.difference(other).is_empty() && other.difference(one).is_empty()
-}
+// Handle, model and execution are lent apart: a struct of the three would be built for one call each, since the model's type differs.
 
 // Asks for each row by itself, absent events and axioms past the last one included.
 fn compare_rows<M: MemoryModel>(rt: &HostRuntime, model: &M, x: &Execution) -> io::Result<()> {
@@ -56,7 +50,7 @@ fn compare_rows<M: MemoryModel>(rt: &HostRuntime, model: &M, x: &Execution) -> i
     for number in 0..=8 {
         let relation = model.relation(&prepared, &laid, number);
         for event in 0..=64 {
-            if !are_equal(model.row(x, number, event), relation.row(event)) {
+            if model.row(x, number, event) != relation.row(event) {
                 println!(rt; "row differs")?;
             }
         }
@@ -65,14 +59,8 @@ fn compare_rows<M: MemoryModel>(rt: &HostRuntime, model: &M, x: &Execution) -> i
 }
 
 // Tells of all axioms of a model, which has this number.
-fn tell<M: MemoryModel>(
-    rt: &HostRuntime,
-    number: u8,
-    model: &M,
-    sheet: &ClosedSheet,
-) -> io::Result<()> {
-    let x = Execution::of(sheet);
-    let prepared = model.prepare(&x);
+fn tell<M: MemoryModel>(rt: &HostRuntime, number: u8, model: &M, x: &Execution) -> io::Result<()> {
+    let prepared = model.prepare(x);
     let laid = model.lay(&prepared, x.order());
     for axiom in 0..model.axioms() {
         print!(rt; "{number} {axiom}")?;
@@ -81,40 +69,37 @@ fn tell<M: MemoryModel>(
     Ok(())
 }
 
-// All six models, in the order of their numbers.
-fn tell_all(rt: &HostRuntime, sheet: &ClosedSheet) -> io::Result<()> {
-    tell(rt, 0, &Sc, sheet)?;
-    tell(rt, 2, &Ptx::Plain, sheet)?;
-    tell(rt, 3, &Ptx::WithProxies, sheet)?;
-    tell(rt, 16, &View { below: Sc }, sheet)?;
-    tell(rt, 18, &View { below: Ptx::Plain }, sheet)?;
-    let below = Ptx::WithProxies;
-    tell(rt, 19, &View { below }, sheet)
+// What is told of a model at the sheet of this place.
+fn answer_model<M: MemoryModel>(
+    rt: &HostRuntime,
+    place: usize,
+    number: u8,
+    model: &M,
+    x: &Execution,
+) -> io::Result<()> {
+    tell(rt, number, model, x)?;
+    if place < FEW {
+        compare_rows(rt, model, x)?;
+    }
+    Ok(())
 }
 
-// The same models, row by row.
-fn compare_all(rt: &HostRuntime, sheet: &ClosedSheet) -> io::Result<()> {
-    let x = Execution::of(sheet);
-    compare_rows(rt, &Sc, &x)?;
-    compare_rows(rt, &Ptx::Plain, &x)?;
-    compare_rows(rt, &Ptx::WithProxies, &x)?;
-    compare_rows(rt, &View { below: Sc }, &x)?;
-    compare_rows(rt, &View { below: Ptx::Plain }, &x)?;
+// All six models, in the order of their numbers, which are printed as the rules have them.
+fn answer_sheet(rt: &HostRuntime, place: usize, x: &Execution) -> io::Result<()> {
+    answer_model(rt, place, 0, &Sc, x)?;
+    answer_model(rt, place, 2, &Ptx::Plain, x)?;
+    answer_model(rt, place, 3, &Ptx::WithProxies, x)?;
+    answer_model(rt, place, 16, &View { below: Sc }, x)?;
+    answer_model(rt, place, 18, &View { below: Ptx::Plain }, x)?;
     let below = Ptx::WithProxies;
-    compare_rows(rt, &View { below }, &x)
+    answer_model(rt, place, 19, &View { below }, x)
 }
 
 // Answers the file at this place of the input.
 fn answer(rt: &HostRuntime, place: usize, file: &[u8]) -> io::Result<()> {
     println!(rt; "sheet {place}")?;
     match read(file) {
-        Ok(sheet) => {
-            tell_all(rt, &sheet)?;
-            if place < FEW {
-                compare_all(rt, &sheet)?;
-            }
-            Ok(())
-        }
+        Ok(sheet) => answer_sheet(rt, place, &Execution::of(&sheet)),
         Err(fault) => println!(rt; "{fault}"),
     }
 }
@@ -122,16 +107,8 @@ fn answer(rt: &HostRuntime, place: usize, file: &[u8]) -> io::Result<()> {
 fn main(rt: HostRuntime) -> io::Result<()> {
     let mut input = Vec::new(rt.alloc());
     rt.stdin().take(LIMIT).read_to_end(&mut input)?;
-    let mut rest = input.as_slice();
-    let mut place = 0usize;
-    while let [low, high, after @ ..] = rest {
-        let len = u16::from_le_bytes([*low, *high]) as usize;
-        if after.len() < len {
-            break;
-        }
-        answer(&rt, place, &after[0..len])?;
-        rest = &after[len..];
-        place = place.wrapping_add(1);
+    for (place, file) in Cases::new(input.as_slice()).enumerate() {
+        answer(&rt, place, file)?;
     }
     Ok(())
 }

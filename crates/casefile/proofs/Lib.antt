@@ -1,4 +1,3 @@
 pub mod Taking
 pub mod Unique
 pub mod Reading
-pub mod Standing

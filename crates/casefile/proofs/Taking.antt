@@ -6,15 +6,13 @@ use Rattle.records.specs.declared.mark.Phase.TheVariants.{Rows, Edges, Ended}
 use Rattle.records.specs.Format.{is_row, is_end, leads}
 use Rattle.records.specs.Grammar.{Item, Led}
 use Rattle.sheet.specs.declared.calls.Call.{Call}
-use Rattle.sheet.specs.declared.calls.Call.TheVariants.{Close, Lay}
-use Rattle.sheet.specs.declared.calls.Edge.{Edge}
+use Rattle.sheet.specs.declared.calls.Call.TheVariants.{Close}
 use Rattle.sheet.specs.declared.calls.Refusal.{Refusal}
-use Rattle.sheet.specs.Book.{Book, absent, full, bad_field, cannot_carry, differ, there, refusal, after, given}
-use Rattle.sheet.proofs.Laws.{given_some}
+use Rattle.sheet.specs.Book.{Book, absent, full, bad_field, cannot_carry, differ, there, refusal, after}
 use Rattle.casefile.specs.declared.fault.Cause.{Cause}
 use Rattle.casefile.specs.declared.fault.Cause.TheVariants.{Sheet}
-use Rattle.casefile.specs.Calls.{byte, call_of, listed, closing, onward, calls, Taken}
-use Rattle.casefile.specs.Steps.{refusal_of, after_of, answer_of, Asked, row_call}
+use Rattle.casefile.specs.Calls.{call_of, listed, closing, onward, calls, Taken}
+use Rattle.casefile.specs.Steps.{answer_of, Asked}
 
 -- ---- lists of calls
 
@@ -61,35 +59,6 @@ module _ {T : Type 0} (x : T) where
   asked_err b (Some k) r c e a g =
       let n = one_refused (refusal b k) e (sym a.answer ∙ g) in
       (k, n.0, refl, n.1, n.2)
-
--- an edge that was refused
-pub refused_edge : (b c : Book) (m n : Mark) (body : List ℕ) (e : Edge) (p : ℕ × ℕ) (d : Result (Unit {0}) Refusal) (r : Result (Unit {0}) Cause) (y : Refusal) (k : Cause)
-    → call_of n body ≡ Some (Lay e (byte body 0) (byte body 1)) → m ≡ n → p ≡ (byte body 0, byte body 1)
-    → d ≡ given (refusal b (Lay e p.0 p.1)) tt → c ≡ after b (Lay e p.0 p.1) → d ≡ Err y → r ≡ Err k → k ≡ Sheet y
-    → Asked b (call_of m body) tt r c
-refused_edge b c m n body e p d r y k o i q g f h j l =
-    let a : Call = Lay e p.0 p.1 in
-    let own : Some a ≡ call_of m body = sym (ap (λ (x : Mark). call_of x body) i ∙ o ∙ ap (λ (x : ℕ × ℕ). Some (Lay e x.0 x.1)) (sym q)) in
-    let no : Some y ≡ refusal b a = sym (given_some (refusal b a) tt y (sym h ∙ g)) in
-    record {
-      answer = j ∙ ap Err l ∙ ap (λ (x : Option Refusal). answer_of x tt) no ∙ ap (λ (x : Option Call). answer_of (refusal_of b x) tt) own;
-      book = f ∙ ap (after_of b) own;
-    }
-
--- a thread and an event make their own call
-pub row_own : (m : Mark) (body : List ℕ) → is_row m ≡ true → row_call m body ≡ call_of m body
-row_own m body r = ap (λ (b : Bool). cond b (call_of m body) None) r
-
-pub row_none : (m : Mark) (body : List ℕ) → is_row m ≡ false → row_call m body ≡ None
-row_none m body r = ap (λ (b : Bool). cond b (call_of m body) None) r
-
--- only a thread and an event make a call of an open sheet
-pub row_made : (m : Mark) (body : List ℕ) (k : Call) → row_call m body ≡ Some k → is_row m ≡ true
-row_made m body k e = made (is_row m) e
-  where
-    made : (b : Bool) → cond b (call_of m body) None ≡ Some k → b ≡ true
-    made true h = refl
-    made false h = absurd (let z : ◌≡◌ {A = ℕ} 0 1 = cc in omega arith)
 
 -- ---- phases
 

@@ -25,18 +25,23 @@ abbrev pub Advanced : List ℕ → List Item → Reader → Result (Option Recor
 Advanced bs front r (Ok o) c = Before bs front r o c
 Advanced bs front r (Err f) c = Reads bs (Err f)
 
+-- without a fault so far, what comes next stands behind these records
+abbrev pub Behind : List ℕ → List Item → Reader → Result (Option Record) Fault → Book → Type 0
+Behind bs front r (Ok o) c = Before bs front r o c
+Behind bs front r (Err f) c = ⊥
+
 -- the case stands behind these records of the file bs
 abbrev pub Stands : List ℕ → List Item → Case → Type 0
-Stands bs front c = (c.fault ≡ None) × Before bs front c.reader c.waiting (closed_book c.sheet)
+Stands bs front c = Behind bs front c.reader c.next (closed_book c.sheet)
 
 -- without a fault so far, the case stands behind the threads and events; else the file's reading ends with that fault, and the sheet is empty
-abbrev pub Begun : List ℕ → Option Fault → Case → Type 0
-Begun bs None c = (front : List Item) × Led Rows front Rows × Stands bs front c
-Begun bs (Some f) c = Reads bs (Err f) × (c.waiting ≡ None) × (closed_book c.sheet ≡ after blank Close)
+abbrev pub Begun : List ℕ → Reader → Result (Option Record) Fault → Book → Type 0
+Begun bs r (Ok o) c = (front : List Item) × Led Rows front Rows × Before bs front r o c
+Begun bs r (Err f) c = Reads bs (Err f) × (c ≡ after blank Close)
 
 -- a case of the file bs that was opened
 abbrev pub Opened : List ℕ → Case → Type 0
-Opened bs c = Begun bs c.fault c
+Opened bs c = Begun bs c.reader c.next (closed_book c.sheet)
 
 -- the record that is handed out is the next one of the file, with its place, and the case then stands behind it; none is handed out at the
 -- file's end; a fault is the one that the file's reading ends with
@@ -46,10 +51,15 @@ Stepped bs front (Ok (Some x)) c = (x.place ≡ length (file front)) × Whole (i
 Stepped bs front (Err f) c = Reads bs (Err f)
 
 -- the book after a step: a record that waits asks its call, and a fault stops the case
-abbrev pub stepped : Option Fault → Option Record → Book → Book
-stepped (Some f) o b = b
-stepped None None b = b
-stepped None (Some x) b = after_of b (call_of x.mark x.body.now)
+abbrev pub stepped : Result (Option Record) Fault → Book → Book
+stepped (Err f) b = b
+stepped (Ok None) b = b
+stepped (Ok (Some x)) b = after_of b (call_of x.mark x.body.now)
+
+-- the fault that is kept, if there is one
+abbrev pub fault_of : Result (Option Record) Fault → Option Fault
+fault_of (Ok o) = None
+fault_of (Err f) = Some f
 
 -- the fault that is kept after a step
 abbrev pub kept : Option Fault → Result (Option Record) Fault → Option Fault

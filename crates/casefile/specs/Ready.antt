@@ -11,11 +11,7 @@ among_rows Edges = false
 among_rows Ended = false
 
 -- it has a body of its mark's size, it is neither a thread nor an event, and none of these comes behind it
-abbrev pub ready : Option Record → Phase → Bool
-ready None p = true
-ready (Some x) p = length x.body.now == size x.mark && (not (is_row x.mark) && not (among_rows p))
-
--- of a record that was read, if one was
-abbrev pub ready_next : {E : Type 0} → Result (Option Record) E → Phase → Bool
-ready_next (Ok o) p = ready o p
-ready_next (Err e) p = true
+abbrev pub ready : {E : Type 0} → Result (Option Record) E → Phase → Bool
+ready (Ok None) p = true
+ready (Ok (Some x)) p = length x.body.now == size x.mark && (not (is_row x.mark) && not (among_rows p))
+ready (Err e) p = true

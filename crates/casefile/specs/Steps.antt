@@ -1,6 +1,5 @@
 -- What the parts of the reading answer. Assumes nothing.
-use Rattle.std.specs.Prelude.{◌≡◌, ℕ, false, cond, List, [], ◌∷◌, ◌++◌, length, Some, None, Ok, Err, Option, Result}
-use Rattle.records.specs.declared.mark.Mark.{Mark}
+use Rattle.std.specs.Prelude.{◌≡◌, ℕ, false, List, [], ◌∷◌, ◌++◌, length, Some, None, Ok, Err, Option, Result}
 use Rattle.records.specs.declared.mark.Phase.{Phase}
 use Rattle.records.specs.declared.mark.Phase.TheVariants.{Rows}
 use Rattle.records.specs.declared.mark.Record.{Record}
@@ -14,13 +13,8 @@ use Rattle.sheet.specs.Book.{Book, blank, refusal, after}
 use Rattle.casefile.specs.declared.fault.Cause.{Cause}
 use Rattle.casefile.specs.declared.fault.Cause.TheVariants.{Sheet}
 use Rattle.casefile.specs.declared.fault.Fault.{Fault}
-use Rattle.casefile.specs.Calls.{call_of, calls, Taken}
+use Rattle.casefile.specs.Calls.{calls, Taken}
 use Rattle.casefile.specs.Files.{Faulty}
-
--- a cause with its place
-abbrev pub placed : {T : Type 0} → Result T Cause → ℕ → Result T Fault
-placed (Ok x) place = Ok x
-placed (Err c) place = Err (record { cause = c; place = place })
 
 -- why the call k, if there is one, is refused
 abbrev pub refusal_of : Book → Option Call → Option Refusal
@@ -41,10 +35,6 @@ answer_of (Some r) x = Err (Sheet r)
 pub record Asked {T : Type 0} (b : Book) (k : Option Call) (x : T) (r : Result T Cause) (c : Book) : Type 0 where
   pub answer : r ≡ answer_of (refusal_of b k) x
   pub book : c ≡ after_of b k
-
--- the call of a thread or an event; another record asks nothing of an open sheet
-abbrev pub row_call : Mark → List ℕ → Option Call
-row_call m body = cond (is_row m) (call_of m body) None
 
 -- the reader has just handed out the record x, which stands behind the records is, in phase p
 pub record Handed (bs : List ℕ) (is : List Item) (p : Phase) (x : Record) (r : Reader) : Type 0 where

@@ -7,12 +7,12 @@ use records::mark::Record;
 use records::reader::Reader;
 use sheet::closed::ClosedSheet;
 
-// The sheet is closed, and has taken the calls of the records before the one that waits. The first fault stays.
+// The sheet is closed, and has taken the calls of the records before the one that waits.
 #[derive(Drop)]
 pub struct Case<'a> {
     pub(crate) reader: Reader<'a>,
-    pub(crate) waiting: Option<Record<'a>>,
+    // the record that waits, `None` at the end of the file, or the first fault, which stays
+    pub(crate) next: Result<Option<Record<'a>>, Fault>,
     pub(crate) sheet: ClosedSheet,
-    pub(crate) fault: Option<Fault>,
-    ghost ready: { ready waiting reader.phase ≡ true },
+    ghost ready: { ready next reader.phase ≡ true },
 }

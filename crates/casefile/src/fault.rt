@@ -1,7 +1,6 @@
 // Why a case file is refused, and where.
 ghost use Rattle.std.specs.Prelude.{◌≡◌};
 ghost use Rattle.casefile.specs.declared.fault.Cause.TheVariants.{Framing, Sheet as BySheet};
-ghost use Rattle.casefile.specs.Steps.{placed};
 
 use records::fault::{Cause as RecordCause, Fault as RecordFault};
 use sheet::calls::Refusal;
@@ -23,6 +22,7 @@ impl From<Refusal> for Cause {
 }
 
 // A cause, and the place of the record's mark.
+// A struct of its own: one `Fault<C>` in `records`, with a trait of causes and a turn by hand at each `?`, takes 4 lines more.
 #[derive(Clone, Copy, PartialEq, Eq, Debug)]
 pub struct Fault {
     pub cause: Cause,
@@ -36,22 +36,6 @@ impl From<RecordFault> for Fault {
         Fault {
             cause: Cause::Framing(e.cause),
             place: e.place,
-        }
-    }
-}
-
-// A cause gets its place.
-pub trait At<T> {
-    fn at(self, place: usize) -> Result<T, Fault>;
-}
-
-impl<T> At<T> for Result<T, Cause> {
-    fn at(self, place: usize) -> Result<T, Fault>
-        ensures { result ≡ placed self place }
-    {
-        match self {
-            Ok(x) => Ok(x),
-            Err(cause) => Err(Fault { cause, place }),
         }
     }
 }

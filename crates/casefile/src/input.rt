@@ -1,30 +1,25 @@
 // A case file read into a sheet.
-ghost use Rattle.std.specs.Prelude.{◌≡◌, false, length, Result};
+ghost use Rattle.std.specs.Prelude.{◌≡◌, ℕ, true, false, List, [], ◌∷◌, ◌++◌, length, Some, Result};
 ghost use Rattle.records.specs.Format.{size, is_row};
+ghost use Rattle.records.specs.Grammar.{Item, item as item_of};
 ghost use Rattle.records.specs.Readers.{Fresh};
 ghost use Rattle.sheet.specs.Book.{Book, blank};
 ghost use Rattle.sheet.specs.Sheets.{open_book, closed_book};
 ghost use Rattle.casefile.specs.declared.fault.Fault.{Fault as Failure};
-ghost use Rattle.casefile.specs.Calls.{byte, fields, call_of};
+ghost use Rattle.casefile.specs.Calls.{fields, call_of};
+ghost use Rattle.casefile.specs.Cases.{Before, Advanced};
 ghost use Rattle.casefile.specs.Files.{Reads, map_ok};
-ghost use Rattle.casefile.specs.Steps.{Asked, row_call, Stopped};
+ghost use Rattle.casefile.specs.Ready.{among_rows, ready};
+ghost use Rattle.casefile.specs.Steps.{Asked, after_of, Stopped};
 
-use crate::fault::{At, Cause, Fault};
+use crate::fault::{Cause, Fault};
 use records::mark::{Mark, Record};
 use records::reader::Reader;
 use sheet::closed::ClosedSheet;
 use sheet::open::OpenSheet;
 use sheet::row::Fields;
 
-// The two bytes of a body.
-fn pair_of(body: &[u8]) -> (u8, u8)
-    requires { length body.now ≡ 2 }
-    ensures { result ≡ (byte body.now 0, byte body.now 1) }
-{
-    (body[0], body[1])
-}
-
-// The fields of an event.
+// The fields of an event. No `From`, since neither `Fields` nor a slice is a type of this crate.
 fn fields_of(body: &[u8]) -> Fields
     requires { length body.now ≡ 11 }
     ensures { result ≡ fields body.now }
@@ -40,47 +35,29 @@ fn fields_of(body: &[u8]) -> Fields
     }
 }
 
-// Adds a thread or an event; tells whether the record is of one.
-fn add(sheet: &mut OpenSheet, item: Record) -> Result<bool, Cause>
-    requires { length item.body.now ≡ size item.mark }
-    ensures { Asked (open_book sheet.old) (row_call item.entry.mark item.entry.body.now) (is_row item.entry.mark) result (open_book sheet.new) }
+// Adds the thread or the event that a record gives. That the body has the size of its mark is asked here and not kept in
+// `Record`, which anyone may build.
+fn add(sheet: &mut OpenSheet, item: Record) -> Result<(), Cause>
+    requires { (length item.body.now ≡ size item.mark) × (is_row item.mark ≡ true) }
+    ensures { Asked (open_book sheet.old) (call_of item.entry.mark item.entry.body.now) tt result (open_book sheet.new) }
 {
-    match item.mark {
-        Mark::Thread => {
-            let (block, device) = pair_of(item.body);
-            sheet.thread(block, device)?;
-            Ok(true)
-        }
-        Mark::Event => {
-            sheet.event(fields_of(item.body))?;
-            Ok(true)
-        }
-        _ => Ok(false),
-    }
+    match (item.mark, item.body) {
+        (Mark::Thread, [block, device]) => sheet.thread(*block, *device)?,
+        (_, body) => sheet.event(fields_of(body))?,
+    };
+    Ok(())
 }
 
 // Lays the edge that a record gives; a question and the end give none.
-pub(crate) fn lay(sheet: &mut ClosedSheet, item: Record) -> Result<(), Cause>
+fn lay(sheet: &mut ClosedSheet, item: Record) -> Result<(), Cause>
     requires { (length item.body.now ≡ size item.mark) × (is_row item.mark ≡ false) }
     ensures { Asked (closed_book sheet.old) (call_of item.entry.mark item.entry.body.now) tt result (closed_book sheet.new) }
 {
-    match item.mark {
-        Mark::ReadFrom => {
-            let (write, read) = pair_of(item.body);
-            sheet.read_from(write, read)?;
-        }
-        Mark::Order => {
-            let (first, second) = pair_of(item.body);
-            sheet.order(first, second)?;
-        }
-        Mark::Atomic => {
-            let (read, write) = pair_of(item.body);
-            sheet.atomic(read, write)?;
-        }
-        Mark::Depend => {
-            let (read, event) = pair_of(item.body);
-            sheet.depend(read, event)?;
-        }
+    match (item.mark, item.body) {
+        (Mark::ReadFrom, [write, read]) => sheet.read_from(*write, *read)?,
+        (Mark::Order, [first, second]) => sheet.order(*first, *second)?,
+        (Mark::Atomic, [read, write]) => sheet.atomic(*read, *write)?,
+        (Mark::Depend, [read, event]) => sheet.depend(*read, *event)?,
         _ => {}
     }
     Ok(())
@@ -95,11 +72,29 @@ pub(crate) fn take_rows<'a>(
     ensures { Stopped reader.old.file.now reader.new result (open_book sheet.new) }
 {
     while let Some(item) = reader.next()? {
-        if !add(sheet, item).at(item.place)? {
+        if !matches!(item.mark, Mark::Thread | Mark::Event) {
             return Ok(Some(item));
         }
+        let place = item.place;
+        add(sheet, item).map_err(|cause| Fault { cause, place })?;
     }
     Ok(None)
+}
+
+// Lays the edge of the record that waits, and reads the next record.
+pub(crate) fn advance<'a>(
+    reader: &mut Reader<'a>,
+    sheet: &mut ClosedSheet,
+    item: Record<'a>,
+) -> Result<Option<Record<'a>>, Fault>
+    requires { (length item.body.now ≡ size item.mark) × ((is_row item.mark ≡ false) × (among_rows reader.old.phase ≡ false)) }
+    ensures laid { closed_book sheet.new ≡ after_of (closed_book sheet.old) (call_of item.entry.mark item.entry.body.now) }
+    ensures ready { ready result reader.new.phase ≡ true }
+    ensures more { (bs : List ℕ) (front : List Item) → Before bs front reader.old (Some item.entry) (closed_book sheet.old) → Advanced bs (front ++ item_of item.entry ∷ []) reader.new result (closed_book sheet.new) }
+{
+    let place = item.place;
+    lay(sheet, item).map_err(|cause| Fault { cause, place })?;
+    Ok(reader.next()?)
 }
 
 // The sheet that a case file builds, or its first fault. Questions alter nothing.
@@ -112,8 +107,7 @@ pub fn read(file: &[u8]) -> Result<ClosedSheet, Fault>
     let mut next = take_rows(&mut reader, &mut open)?;
     let mut sheet = open.close();
     while let Some(item) = next {
-        lay(&mut sheet, item).at(item.place)?;
-        next = reader.next()?;
+        next = advance(&mut reader, &mut sheet, item)?;
     }
     Ok(sheet)
 }

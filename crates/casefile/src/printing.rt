@@ -8,6 +8,7 @@ use std::fmt;
 // The layer of the sheet.
 const SHEET: u8 = 3;
 
+// Each layer counts from 1, so the numbers are no discriminants of the enum.
 impl Cause {
     // The layer that found the fault: 1 is the input, 2 the records, 3 the sheet.
     pub fn layer(self) -> u8
@@ -25,12 +26,12 @@ impl Cause {
     {
         match self {
             Cause::Framing(cause) => cause.number(),
-            Cause::Sheet(refusal) => refusal.number(),
+            Cause::Sheet(refusal) => u8::from(refusal),
         }
     }
 }
 
-// `fault LAYER CAUSE PLACE`
+// `fault LAYER CAUSE PLACE`, as in `records`: the two types of fault are apart, and so is their printing.
 impl fmt::Display for Fault {
     ghost output = { λ f. Some (fault_text f) };
 

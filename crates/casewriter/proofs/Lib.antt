@@ -1,4 +1,5 @@
 pub mod Writing
+pub mod Adding
 pub mod Parts
 pub mod Taking
 pub mod Return

@@ -1,10 +1,11 @@
 -- What is written reads back as the same book.
-use Rattle.std.proofs.Common.{◌≡◌, ℕ, zero, suc, ◌+◌, ◌*◌, ◌/◌, ◌%◌, ◌<◌, ◌≤◌, Bool, true, false, cond, not, ◌&&◌, ◌||◌, ltb, List, [], ◌∷◌, ◌++◌, map, length, get_or, take, Some, None, Ok, sym, refl, ap, ◌∙◌, subst, ap₂, append_assoc, append-nil, add-one, arith}
+use Rattle.std.proofs.Common.{◌≡◌, ℕ, zero, suc, ◌+◌, ◌*◌, ◌/◌, ◌%◌, ◌<◌, ◌≤◌, Bool, true, false, cond, not, ◌&&◌, ◌||◌, ltb, List, [], ◌∷◌, ◌++◌, map, length, get_or, take, Option, Some, None, Ok, sym, refl, ap, ◌∙◌, subst, ap₂, append_assoc, append-nil, add-one, arith}
 use Rattle.std.proofs.lemmas.List.{map_push, take_more, take_all, take-take, get_or-take, length-take-le}
 use Rattle.std.proofs.lemmas.Bool.{and_parts, ltb-true, lt-ltb}
 use Rattle.relation.specs.Algebra.{Rel}
+use Rattle.records.specs.declared.mark.Phase.{Phase}
 use Rattle.records.specs.declared.mark.Phase.TheVariants.{Rows, Edges, Ended}
-use Rattle.records.specs.Format.{is_row}
+use Rattle.records.specs.Format.{is_row, is_end}
 use Rattle.records.specs.Grammar.{Item, Led, Reading}
 use Rattle.sheet.specs.declared.words.Kind.{Kind}
 use Rattle.sheet.specs.declared.words.Kind.TheVariants.{Read, Write, MemoryFence, ProxyFence}
@@ -33,7 +34,7 @@ use Rattle.sheet.proofs.Reading.{bind_some}
 use Rattle.records.proofs.Unique.{reading_one}
 use Rattle.casefile.specs.Calls.{calls, Taken, fields, call_of, listed, onward}
 use Rattle.casefile.specs.Files.{Reads}
-use Rattle.casewriter.specs.Items.{thread_item, event_item, edge_item, end_item, mark_of, picked, edge_items, sort_items, items, file_of}
+use Rattle.casewriter.specs.Items.{thread_item, event_item, edge_item, end_item, picked, edge_items, sort_items, items, file_of}
 use Rattle.casewriter.specs.Written.{FilesTell}
 use Rattle.casewriter.proofs.Parts.{part}
 use Rattle.casewriter.proofs.Taking.{taken_append, taken_one, lays, sort_taken, part_none, part_all}
@@ -113,17 +114,13 @@ add_thread t = AddThread t.block t.device
 abbrev add_event : Event → Call
 add_event e = AddEvent (given_fields e)
 
-calls_threads : (ts : List Thread) (rest : List Item) → calls Rows (map thread_item ts ++ rest) ≡ map add_thread ts ++ calls Rows rest
-calls_threads [] rest = refl
-calls_threads (t ∷ ts) rest = ap (λ (cs : List Call). add_thread t ∷ cs) (calls_threads ts rest)
-
-abbrev AllSized : List Event → Type 0
-AllSized [] = Unit {0}
-AllSized (e ∷ es) = (sized e ≡ true) × AllSized es
-
-calls_events : (es : List Event) → AllSized es → (rest : List Item) → calls Rows (map event_item es ++ rest) ≡ map add_event es ++ calls Rows rest
-calls_events [] h rest = refl
-calls_events (e ∷ es) h rest = ap₂ (λ (f : Fields) (cs : List Call). AddEvent f ∷ cs) (fields_given e h.0) (calls_events es h.1 rest)
+-- the calls of rows, by what the record of each one calls
+calls_rows : {X : Type 0} (p : Phase) (f : X → Item) (g : X → Call) (d : X) (xs : List X)
+    → ((k : ℕ) → k < length xs → (rest : List Item) → calls p (f (get_or xs k d) ∷ rest) ≡ g (get_or xs k d) ∷ calls p rest)
+    → (rest : List Item) → calls p (map f xs ++ rest) ≡ map g xs ++ calls p rest
+calls_rows p f g d [] h rest = refl
+calls_rows p f g d (x ∷ xs) h rest =
+    h 0 (omega arith) (map f xs ++ rest) ∙ ap (λ (cs : List Call). g x ∷ cs) (calls_rows p f g d xs (λ k l. h (suc k) (omega arith)) rest)
 
 one_edge : (k : Edge) (i j : ℕ) (rest : List Item) → calls Edges (edge_item k i j ∷ rest) ≡ Lay k i j ∷ calls Edges rest
 one_edge ReadFrom i j rest = refl
@@ -131,44 +128,53 @@ one_edge Order i j rest = refl
 one_edge Atomic i j rest = refl
 one_edge Depend i j rest = refl
 
-calls_row : (k : Edge) (i : ℕ) (js : List ℕ) (rest : List Item) → calls Edges (map (edge_item k i) js ++ rest) ≡ map (Lay k i) js ++ calls Edges rest
-calls_row k i [] rest = refl
-calls_row k i (j ∷ js) rest = one_edge k i j (map (edge_item k i) js ++ rest) ∙ ap (λ (cs : List Call). Lay k i j ∷ cs) (calls_row k i js rest)
-
 calls_sort : (k : Edge) (R : Rel) (n m : ℕ) (rest : List Item) → calls Edges (edge_items k R n m ++ rest) ≡ lays k R n m ++ calls Edges rest
 calls_sort k R n zero rest = refl
 calls_sort k R n (suc m) rest =
-    ap (calls Edges) (append_assoc (edge_items k R n m) (map (edge_item k m) (picked (R m) n)) rest)
-    ∙ calls_sort k R n m (map (edge_item k m) (picked (R m) n) ++ rest)
-    ∙ ap (λ (cs : List Call). lays k R n m ++ cs) (calls_row k m (picked (R m) n) rest)
-    ∙ sym (append_assoc (lays k R n m) (map (Lay k m) (picked (R m) n)) (calls Edges rest))
+    let js = picked (R m) n in
+    ap (calls Edges) (append_assoc (edge_items k R n m) (map (edge_item k m) js) rest)
+    ∙ calls_sort k R n m (map (edge_item k m) js ++ rest)
+    ∙ ap (λ (cs : List Call). lays k R n m ++ cs) (calls_rows Edges (edge_item k m) (Lay k m) 0 js (λ q l more. one_edge k m (get_or js q 0) more) rest)
+    ∙ sym (append_assoc (lays k R n m) (map (Lay k m) js) (calls Edges rest))
 
--- ---- records that are no rows
+-- ---- the records may follow one another
 
--- a list that begins with no row
+-- what holds on with one row more holds on with all rows
+over_rows : {X : Type 0} (P : List Item → Type 0) (f : X → Item) → ((x : X) (rest : List Item) → P rest → P (f x ∷ rest))
+    → (xs : List X) (rest : List Item) → P rest → P (map f xs ++ rest)
+over_rows P f one [] rest h = h
+over_rows P f one (x ∷ xs) rest h = one x (map f xs ++ rest) (over_rows P f one xs rest h)
+
+-- records that may stand behind the rows
 abbrev Behind : List Item → Type 0
-Behind [] = ⊥
-Behind (i ∷ is) = is_row i.mark ≡ false
+Behind is = Led Edges is Ended
 
-edge_no_row : (k : Edge) → is_row (mark_of k) ≡ false
-edge_no_row ReadFrom = refl
-edge_no_row Order = refl
-edge_no_row Atomic = refl
-edge_no_row Depend = refl
+edge_behind : (k : Edge) (i j : ℕ) (rest : List Item) → Behind rest → Behind (edge_item k i j ∷ rest)
+edge_behind ReadFrom i j rest h = (record { long = refl; fields = tt }, Edges, refl, h)
+edge_behind Order i j rest h = (record { long = refl; fields = tt }, Edges, refl, h)
+edge_behind Atomic i j rest h = (record { long = refl; fields = tt }, Edges, refl, h)
+edge_behind Depend i j rest h = (record { long = refl; fields = tt }, Edges, refl, h)
 
-behind_row : (k : Edge) (i : ℕ) (js : List ℕ) (rest : List Item) → Behind rest → Behind (map (edge_item k i) js ++ rest)
-behind_row k i [] rest h = h
-behind_row k i (j ∷ js) rest h = edge_no_row k
+sort_behind : (k : Edge) (R : Rel) (n m : ℕ) (rest : List Item) → Behind rest → Behind (edge_items k R n m ++ rest)
+sort_behind k R n zero rest h = h
+sort_behind k R n (suc m) rest h =
+    let js = picked (R m) n in
+    subst Behind (sym (append_assoc (edge_items k R n m) (map (edge_item k m) js) rest))
+    (sort_behind k R n m (map (edge_item k m) js ++ rest) (over_rows Behind (edge_item k m) (edge_behind k m) js rest h))
 
-behind_sort : (k : Edge) (R : Rel) (n m : ℕ) (rest : List Item) → Behind rest → Behind (edge_items k R n m ++ rest)
-behind_sort k R n zero rest h = h
-behind_sort k R n (suc m) rest h =
-    subst Behind (sym (append_assoc (edge_items k R n m) (map (edge_item k m) (picked (R m) n)) rest)) (behind_sort k R n m (map (edge_item k m) (picked (R m) n) ++ rest) (behind_row k m (picked (R m) n) rest h))
+not_row : (b : Bool) (o : Option Phase) (s : Phase) → cond b None o ≡ Some s → b ≡ false
+not_row true o s e = cc
+not_row false o s e = refl
 
--- the first record that is no row closes the sheet
-calls_close : (is : List Item) → Behind is → calls Rows is ≡ Close ∷ calls Edges is
-calls_close [] h = absurd h
-calls_close (i ∷ is) h = ap (λ (b : Bool). cond b [] (Close ∷ []) ++ (listed (call_of i.mark i.body) ++ calls (onward i.mark) is)) h
+-- the first of them closes the sheet, and they may follow rows
+closes : (is : List Item) → Behind is → Led Rows is Ended × (calls Rows is ≡ Close ∷ calls Edges is)
+closes [] h = cc
+closes (i ∷ is) h =
+    let after = Some (cond (is_end i.mark) Ended Edges) in
+    let e : is_row i.mark ≡ false = not_row (is_row i.mark) after h.1 h.2 in (
+      (h.0, h.1, ap (λ (b : Bool). Some (cond b Rows (cond (is_end i.mark) Ended Edges))) e ∙ sym (ap (λ (b : Bool). cond b None after) e) ∙ h.2, h.3),
+      ap (λ (b : Bool). cond b [] (Close ∷ []) ++ (listed (call_of i.mark i.body) ++ calls (onward i.mark) is)) e,
+    )
 
 -- ---- rows are taken
 
@@ -190,113 +196,58 @@ event_one ts us e l h =
     (no_row (rows_book ts us) (add_event e) (ap not p.0) (ap not (lt-ltb (length us) 64 l)) (ap not (ap (keeps no_event) (decoded_given e) ∙ q.0)) refl refl refl)
     (ap (λ (f : Event). rows_book ts (us ++ f ∷ [])) (ap or_none (decoded_given e)))
 
-threads_taken : (ts : List Thread) → length ts ≤ 16 → ThreadsFit ts (length ts) → (k : ℕ) → k ≤ length ts → Taken blank (map add_thread (take k ts)) (rows_book (take k ts) [])
-threads_taken ts few fit zero l = refl
-threads_taken ts few fit (suc k) l =
-    let more : take (suc k) ts ≡ take k ts ++ get_or ts k no_thread ∷ [] = ap (λ n. take n ts) (sym (add-one k)) ∙ take_more ts k no_thread (omega arith) in
-    subst (λ (us : List Thread). Taken blank (map add_thread us) (rows_book us [])) (sym more)
-    (subst (λ (cs : List Call). Taken blank cs (rows_book (take k ts ++ get_or ts k no_thread ∷ []) [])) (sym (map_push add_thread (take k ts) (get_or ts k no_thread)))
-    (taken_append blank (rows_book (take k ts) []) (rows_book (take k ts ++ get_or ts k no_thread ∷ []) []) (map add_thread (take k ts)) (add_thread (get_or ts k no_thread) ∷ [])
-    (threads_taken ts few fit k (omega arith))
-    (thread_one (take k ts) (get_or ts k no_thread) (omega (arith, length-take-le k ts (omega arith))) (fit k (omega arith)))))
+-- rows are taken one after another
+rows_taken : {X : Type 0} (add : X → Call) (book : List X → Book) (d : X) (xs : List X)
+    → ((k : ℕ) → k < length xs → Taken (book (take k xs)) (add (get_or xs k d) ∷ []) (book (take k xs ++ get_or xs k d ∷ [])))
+    → Taken (book []) (map add xs) (book xs)
+rows_taken {X} add book d xs one = subst (λ (us : List X). Taken (book []) (map add us) (book us)) (take_all (length xs) xs (omega arith)) (go (length xs) (omega arith))
+  where
+    go : (k : ℕ) → k ≤ length xs → Taken (book []) (map add (take k xs)) (book (take k xs))
+    go zero l = refl
+    go (suc k) l =
+        let us = take k xs in
+        let x = get_or xs k d in
+        subst (λ (vs : List X). Taken (book []) (map add vs) (book vs)) (sym (ap (λ n. take n xs) (sym (add-one k)) ∙ take_more xs k d (omega arith)))
+        (subst (λ (cs : List Call). Taken (book []) cs (book (us ++ x ∷ []))) (sym (map_push add us x))
+        (taken_append (book []) (book us) (book (us ++ x ∷ [])) (map add us) (add x ∷ []) (go k (omega arith)) (one k (omega arith))))
 
-events_taken : (ts : List Thread) (es : List Event) → length es ≤ 64 → EventsFit (length ts) es (length es) → (k : ℕ) → k ≤ length es
-    → Taken (rows_book ts []) (map add_event (take k es)) (rows_book ts (take k es))
-events_taken ts es few fit zero l = refl
-events_taken ts es few fit (suc k) l =
-    let more : take (suc k) es ≡ take k es ++ get_or es k no_event ∷ [] = ap (λ n. take n es) (sym (add-one k)) ∙ take_more es k no_event (omega arith) in
-    subst (λ (us : List Event). Taken (rows_book ts []) (map add_event us) (rows_book ts us)) (sym more)
-    (subst (λ (cs : List Call). Taken (rows_book ts []) cs (rows_book ts (take k es ++ get_or es k no_event ∷ []))) (sym (map_push add_event (take k es) (get_or es k no_event)))
-    (taken_append (rows_book ts []) (rows_book ts (take k es)) (rows_book ts (take k es ++ get_or es k no_event ∷ [])) (map add_event (take k es)) (add_event (get_or es k no_event) ∷ [])
-    (events_taken ts es few fit k (omega arith))
-    (event_one ts (take k es) (get_or es k no_event) (omega (arith, length-take-le k es (omega arith))) (fit k (omega arith)))))
-
-all_sized : (es : List Event) (m : ℕ) → EventsFit m es (length es) → AllSized es
+event_sized : (m : ℕ) (e : Event) → event_comes m e ≡ true → sized e ≡ true
 unfolding event_comes
-all_sized [] m fit = tt
-all_sized (e ∷ es) m fit =
-    ((and_parts (lawful e) (sized e) (and_parts (ltb e.thread m) (lawful e && sized e) (fit 0 (omega arith))).1).1, all_sized es m (λ k l. fit (suc k) (omega arith)))
+event_sized m e h = (and_parts (lawful e) (sized e) (and_parts (ltb e.thread m) (lawful e && sized e) h).1).1
 
--- ---- the records may follow one another
+-- ---- the edges behind the rows, sort by sort
 
-abbrev Ends : List Item → Type 0
-Ends is = Led Rows is Ended × Led Edges is Ended
+abbrev sorts : List Edge
+sorts = ReadFrom ∷ Atomic ∷ Depend ∷ Order ∷ []
 
-ends_edge : (k : Edge) (i j : ℕ) (rest : List Item) → Ends rest → Ends (edge_item k i j ∷ rest)
-ends_edge ReadFrom i j rest h = ((record { long = refl; fields = tt }, Edges, refl, h.1), (record { long = refl; fields = tt }, Edges, refl, h.1))
-ends_edge Order i j rest h = ((record { long = refl; fields = tt }, Edges, refl, h.1), (record { long = refl; fields = tt }, Edges, refl, h.1))
-ends_edge Atomic i j rest h = ((record { long = refl; fields = tt }, Edges, refl, h.1), (record { long = refl; fields = tt }, Edges, refl, h.1))
-ends_edge Depend i j rest h = ((record { long = refl; fields = tt }, Edges, refl, h.1), (record { long = refl; fields = tt }, Edges, refl, h.1))
+-- the sorts are those that are not done, each once
+abbrev Left : (Edge → Bool) → List Edge → Type 0
+Left done [] = (e : Edge) → done e ≡ true
+Left done (k ∷ ks) = (done k ≡ false) × Left (λ e. done e || same_edge k e) ks
 
-ends_row : (k : Edge) (i : ℕ) (js : List ℕ) (rest : List Item) → Ends rest → Ends (map (edge_item k i) js ++ rest)
-ends_row k i [] rest h = h
-ends_row k i (j ∷ js) rest h = ends_edge k i j (map (edge_item k i) js ++ rest) (ends_row k i js rest h)
+all_done : (e : Edge) → (((same_edge ReadFrom e || same_edge Atomic e) || same_edge Depend e) || same_edge Order e) ≡ true
+all_done ReadFrom = refl
+all_done Order = refl
+all_done Atomic = refl
+all_done Depend = refl
 
-ends_sort : (k : Edge) (R : Rel) (n m : ℕ) (rest : List Item) → Ends rest → Ends (edge_items k R n m ++ rest)
-ends_sort k R n zero rest h = h
-ends_sort k R n (suc m) rest h =
-    subst Ends (sym (append_assoc (edge_items k R n m) (map (edge_item k m) (picked (R m) n)) rest)) (ends_sort k R n m (map (edge_item k m) (picked (R m) n) ++ rest) (ends_row k m (picked (R m) n) rest h))
+abbrev tail : Book → List Edge → List Item
+tail b [] = end_item ∷ []
+tail b (k ∷ ks) = sort_items b k ++ tail b ks
 
-ends_end : Ends (end_item ∷ [])
-ends_end = ((record { long = refl; fields = tt }, Ended, refl, refl), (record { long = refl; fields = tt }, Ended, refl, refl))
+abbrev tail_calls : Book → List Edge → List Call
+tail_calls b [] = []
+tail_calls b (k ∷ ks) = lays k (b.edges k) (length b.events) (length b.events) ++ tail_calls b ks
 
-led_threads : (ts : List Thread) (rest : List Item) → Led Rows rest Ended → Led Rows (map thread_item ts ++ rest) Ended
-led_threads [] rest h = h
-led_threads (t ∷ ts) rest h = (record { long = refl; fields = tt }, Rows, refl, led_threads ts rest h)
+tail_behind : (b : Book) (ks : List Edge) → Behind (tail b ks)
+tail_behind b [] = (record { long = refl; fields = tt }, Ended, refl, refl)
+tail_behind b (k ∷ ks) = sort_behind k (b.edges k) (length b.events) (length b.events) (tail b ks) (tail_behind b ks)
 
-led_events : (es : List Event) (rest : List Item) → Led Rows rest Ended → Led Rows (map event_item es ++ rest) Ended
-led_events [] rest h = h
-led_events (e ∷ es) rest h = (record { long = refl; fields = tt }, Rows, refl, led_events es rest h)
-
--- ---- the whole file
-
-abbrev d0 : Edge → Bool
-d0 e = false
-
-abbrev d1 : Edge → Bool
-d1 e = d0 e || same_edge ReadFrom e
-
-abbrev d2 : Edge → Bool
-d2 e = d1 e || same_edge Atomic e
-
-abbrev d3 : Edge → Bool
-d3 e = d2 e || same_edge Depend e
-
-abbrev d4 : Edge → Bool
-d4 e = d3 e || same_edge Order e
-
-d4_all : (e : Edge) → d4 e ≡ true
-d4_all ReadFrom = refl
-d4_all Order = refl
-d4_all Atomic = refl
-d4_all Depend = refl
-
--- the records behind the rows
-abbrev tail : Book → List Item
-tail b = sort_items b ReadFrom ++ (sort_items b Atomic ++ (sort_items b Depend ++ (sort_items b Order ++ end_item ∷ [])))
-
-abbrev tail_calls : Book → List Call
-tail_calls b =
+calls_tail : (b : Book) (ks : List Edge) → calls Edges (tail b ks) ≡ tail_calls b ks
+calls_tail b [] = refl
+calls_tail b (k ∷ ks) =
     let n = length b.events in
-    lays ReadFrom (b.edges ReadFrom) n n ++ (lays Atomic (b.edges Atomic) n n ++ (lays Depend (b.edges Depend) n n ++ (lays Order (b.edges Order) n n ++ [])))
-
-tail_ends : (b : Book) → Ends (tail b)
-tail_ends b =
-    let n = length b.events in
-    ends_sort ReadFrom (b.edges ReadFrom) n n _ (ends_sort Atomic (b.edges Atomic) n n _ (ends_sort Depend (b.edges Depend) n n _ (ends_sort Order (b.edges Order) n n _ ends_end)))
-
-tail_behind : (b : Book) → Behind (tail b)
-tail_behind b =
-    let n = length b.events in
-    behind_sort ReadFrom (b.edges ReadFrom) n n _ (behind_sort Atomic (b.edges Atomic) n n _ (behind_sort Depend (b.edges Depend) n n _ (behind_sort Order (b.edges Order) n n _ refl)))
-
-calls_tail : (b : Book) → calls Edges (tail b) ≡ tail_calls b
-calls_tail b =
-    let n = length b.events in
-    calls_sort ReadFrom (b.edges ReadFrom) n n _
-    ∙ ap (λ (cs : List Call). lays ReadFrom (b.edges ReadFrom) n n ++ cs) (calls_sort Atomic (b.edges Atomic) n n _
-    ∙ ap (λ (cs : List Call). lays Atomic (b.edges Atomic) n n ++ cs) (calls_sort Depend (b.edges Depend) n n _
-    ∙ ap (λ (cs : List Call). lays Depend (b.edges Depend) n n ++ cs) (calls_sort Order (b.edges Order) n n (end_item ∷ []))))
+    calls_sort k (b.edges k) n n (tail b ks) ∙ ap (λ (cs : List Call). lays k (b.edges k) n n ++ cs) (calls_tail b ks)
 
 abbrev closed_with : List Thread → List Event → EdgeSets → Book
 closed_with ts es s = record { threads = ts; events = es; edges = s; closed = true; trial = None }
@@ -316,7 +267,7 @@ module _ (s : ClosedSheet) where
   event_number : length own.events ≡ s.rows.event_count
   event_number = length-take-le s.rows.event_count s.rows.events (omega (arith, s.rows.few.1, s.rows.long.1))
 
-  few_events : length own.events ≤ 64
+  pub few_events : length own.events ≤ 64
   few_events = omega (arith, event_number, s.rows.few.1)
 
   threads_fit : ThreadsFit own.threads (length own.threads)
@@ -329,46 +280,44 @@ module _ (s : ClosedSheet) where
       let m : k < s.rows.event_count = omega (arith, event_number) in
       ap₂ event_comes thread_number (get_or-take s.rows.event_count s.rows.events k no_event m) ∙ s.rows.events_fit k m
 
-  tail_taken : Taken (closed_with own.threads own.events no_edges) (tail_calls own) own
-  tail_taken =
-      let ts = own.threads in
-      let es = own.events in
+  sorts_taken : (done : Edge → Bool) (ks : List Edge) → Left done ks
+      → Taken (closed_with own.threads own.events (part (laid s.edges) done (get_or ks 0 Order) 0 0)) (tail_calls own ks) own
+  sorts_taken done [] left = ap (closed_with own.threads own.events) (part_all (laid s.edges) done Order left)
+  sorts_taken done (k ∷ ks) left =
       let S = laid s.edges in
-      let n = length es in
-      let f = few_events in
-      let at : EdgeSets → Book = closed_with ts es in
-      let t1 = sort_taken ts es S f s.edges_fit s.one_source s.one_way d0 ReadFrom refl d1 Atomic (λ e. refl) in
-      let t2 = sort_taken ts es S f s.edges_fit s.one_source s.one_way d1 Atomic refl d2 Depend (λ e. refl) in
-      let t3 = sort_taken ts es S f s.edges_fit s.one_source s.one_way d2 Depend refl d3 Order (λ e. refl) in
-      let t4 = sort_taken ts es S f s.edges_fit s.one_source s.one_way d3 Order refl d4 Order (λ e. refl) in
-      let t5 : Taken (at (part S d4 Order 0 0)) [] own = ap at (part_all S d4 Order d4_all) in
-      subst (λ (z : EdgeSets). Taken (closed_with ts es z) (tail_calls own) own) (part_none S ReadFrom)
-      (taken_append (at (part S d0 ReadFrom 0 0)) (at (part S d1 Atomic 0 0)) own (lays ReadFrom (S ReadFrom) n n) _ t1
-      (taken_append (at (part S d1 Atomic 0 0)) (at (part S d2 Depend 0 0)) own (lays Atomic (S Atomic) n n) _ t2
-      (taken_append (at (part S d2 Depend 0 0)) (at (part S d3 Order 0 0)) own (lays Depend (S Depend) n n) _ t3
-      (taken_append (at (part S d3 Order 0 0)) (at (part S d4 Order 0 0)) own (lays Order (S Order) n n) [] t4 t5))))
+      let at : EdgeSets → Book = closed_with own.threads own.events in
+      let next = λ (e : Edge). done e || same_edge k e in
+      let q = get_or ks 0 Order in
+      taken_append (at (part S done k 0 0)) (at (part S next q 0 0)) own (lays k (S k) (length own.events) (length own.events)) (tail_calls own ks)
+      (sort_taken own.threads own.events S few_events s.edges_fit s.one_source s.one_way done k left.0 next q (λ e. refl)) (sorts_taken next ks left.1)
+
+  tail_taken : Taken (closed_with own.threads own.events no_edges) (tail_calls own sorts) own
+  tail_taken =
+      subst (λ (z : EdgeSets). Taken (closed_with own.threads own.events z) (tail_calls own sorts) own) (part_none (laid s.edges) ReadFrom)
+      (sorts_taken (λ e. false) sorts (refl, (refl, (refl, (refl, all_done)))))
 
   -- the calls of the sheet's own records
-  own_calls : calls Rows (items own) ≡ map add_thread own.threads ++ (map add_event own.events ++ (Close ∷ tail_calls own))
+  own_calls : calls Rows (items own) ≡ map add_thread own.threads ++ (map add_event own.events ++ (Close ∷ tail_calls own sorts))
   own_calls =
-      calls_threads own.threads _
-      ∙ ap (λ (cs : List Call). map add_thread own.threads ++ cs) (calls_events own.events (all_sized own.events (length own.threads) events_fit) (tail own)
-      ∙ ap (λ (cs : List Call). map add_event own.events ++ cs) (calls_close (tail own) (tail_behind own) ∙ ap (λ (cs : List Call). Close ∷ cs) (calls_tail own)))
+      calls_rows Rows thread_item add_thread no_thread own.threads (λ k l rest. refl) _
+      ∙ ap (λ (cs : List Call). map add_thread own.threads ++ cs) (calls_rows Rows event_item add_event no_event own.events
+      (λ k l rest. ap (λ (f : Fields). AddEvent f ∷ calls Rows rest) (fields_given (get_or own.events k no_event) (event_sized (length own.threads) (get_or own.events k no_event) (events_fit k l)))) (tail own sorts)
+      ∙ ap (λ (cs : List Call). map add_event own.events ++ cs) ((closes (tail own sorts) (tail_behind own sorts)).1 ∙ ap (λ (cs : List Call). Close ∷ cs) (calls_tail own sorts)))
 
   own_taken : Taken blank (calls Rows (items own)) own
   own_taken =
       let ts = own.threads in
       let es = own.events in
       let a : Taken blank (map add_thread ts) (rows_book ts []) =
-      subst (λ (us : List Thread). Taken blank (map add_thread us) (rows_book us [])) (take_all (length ts) ts (omega arith))
-      (threads_taken ts (omega (arith, thread_number, s.rows.few.0)) threads_fit (length ts) (omega arith)) in
+      rows_taken add_thread (λ us. rows_book us []) no_thread ts
+      (λ k l. thread_one (take k ts) (get_or ts k no_thread) (omega (arith, length-take-le k ts (omega arith), thread_number, s.rows.few.0)) (threads_fit k l)) in
       let b : Taken (rows_book ts []) (map add_event es) (rows_book ts es) =
-      subst (λ (us : List Event). Taken (rows_book ts []) (map add_event us) (rows_book ts us)) (take_all (length es) es (omega arith))
-      (events_taken ts es few_events events_fit (length es) (omega arith)) in
+      rows_taken add_event (rows_book ts) no_event es
+      (λ k l. event_one ts (take k es) (get_or es k no_event) (omega (arith, length-take-le k es (omega arith), few_events)) (events_fit k l)) in
       subst (λ (cs : List Call). Taken blank cs own) (sym own_calls)
       (taken_append blank (rows_book ts []) own (map add_thread ts) _ a
       (taken_append (rows_book ts []) (rows_book ts es) own (map add_event es) _ b
-      (taken_append (rows_book ts es) (closed_with ts es no_edges) own (Close ∷ []) (tail_calls own) (close_taken ts es) tail_taken)))
+      (taken_append (rows_book ts es) (closed_with ts es no_edges) own (Close ∷ []) (tail_calls own sorts) (close_taken ts es) tail_taken)))
 
   -- the sheet's file reads back as its book
   pub reads_back : Reads (file_of own) (Ok own)
@@ -378,7 +327,10 @@ module _ (s : ClosedSheet) where
       phase = Ended;
       rest = [];
       bytes = sym (append-nil (file_of own));
-      led = led_threads own.threads _ (led_events own.events (tail own) (tail_ends own).0);
+      led =
+          over_rows (λ is. Led Rows is Ended) thread_item (λ t rest h. (record { long = refl; fields = tt }, Rows, refl, h)) own.threads _
+          (over_rows (λ is. Led Rows is Ended) event_item (λ e rest h. (record { long = refl; fields = tt }, Rows, refl, h)) own.events (tail own sorts)
+          (closes (tail own sorts) (tail_behind own sorts)).0);
       ends = (refl, refl);
     },
     own_taken,

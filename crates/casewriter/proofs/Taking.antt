@@ -1,7 +1,7 @@
 -- The calls of a sheet's own edges are accepted, and leave these edges.
 use Rattle.std.proofs.Common.{◌≡◌, ℕ, zero, suc, ◌+◌, ◌<◌, ◌≤◌, Bool, true, false, cond, not, ◌||◌, ltb, ◌⊎◌, List, [], ◌∷◌, ◌++◌, map, length, None, sym, refl, ap, ◌∙◌, subst, ⊎_elim, add-one, arith}
 use Rattle.std.proofs.lemmas.List.{map-append}
-use Rattle.std.proofs.lemmas.Bool.{and_parts, and_from, or_from, or_cases, or_left, or_right, true≢false, ltb-true, eqb-true, not-true}
+use Rattle.std.proofs.lemmas.Bool.{and_parts, and_from, or_from, or_cases, or_left, or_right, true≢false, false_from_ne_true, ltb-true, eqb-true, not-true}
 use Rattle.relation.specs.Algebra.{Rel, none, range_below}
 use Rattle.relation.proofs.Below.{some_none}
 use Rattle.sheet.specs.declared.row.Thread.{Thread}
@@ -18,7 +18,7 @@ use Rattle.sheet.proofs.Laws.{no_row, accepts}
 use Rattle.sheet.proofs.OneEdge.{same_sort, own_sort}
 use Rattle.casefile.specs.Calls.{Taken}
 use Rattle.casewriter.specs.Items.{picked}
-use Rattle.casewriter.proofs.Parts.{before, before_says, before_first, part_done, part_before, part, part_says, part_no, part_row, part_yes, same_edge_sets}
+use Rattle.casewriter.proofs.Parts.{before, before_says, before_first, part_done, part_before, part, part_says, part_start, part_no, part_row, part_yes, same_edge_sets}
 
 pub taken_append : (b c d : Book) (xs ys : List Call) → Taken b xs c → Taken c ys d → Taken b (xs ++ ys) d
 taken_append b c d [] ys t u = subst (λ (z : Book). Taken z ys d) (sym t) u
@@ -32,10 +32,6 @@ taken_one b c k h e = (h, sym (accepts b k (tt {0}) h).1 ∙ e)
 abbrev pub lays : Edge → Rel → ℕ → ℕ → List Call
 lays k R n zero = []
 lays k R n (suc m) = lays k R n m ++ map (Lay k m) (picked (R m) n)
-
-no_true : (b : Bool) → (b ≡ true → ⊥) → b ≡ false
-no_true true f = absurd (f refl)
-no_true false f = refl
 
 module _ (ts : List Thread) (es : List Event) (S : EdgeSets) (few : length es ≤ 64) (fit : EdgesFit es S) (source : OneSource S) (way : OneWay S) where
   abbrev pub book_with : EdgeSets → Book
@@ -57,18 +53,18 @@ module _ (ts : List Thread) (es : List Event) (S : EdgeSets) (few : length es �
 
     not_itself : (i j : ℕ) (e : Edge) → k ≡ e → part S done k i j e i j ≡ false
     not_itself i j e q =
-        no_true (part S done k i j e i j) (λ h. ⊎_elim (λ (l : i < i). omega arith) (λ (l : (i ≡ i) × (j < j)). omega arith) (read_before i j e q i j h).1)
+        false_from_ne_true (part S done k i j e i j) (λ h. ⊎_elim (λ (l : i < i). omega arith) (λ (l : (i ≡ i) × (j < j)). omega arith) (read_before i j e q i j h).1)
 
     not_given : (i j : ℕ) → S k i j ≡ true → (e : Edge) → k ≡ e → given_in (part S done k i j) e i j ≡ false
     unfolding given_in range_below
     not_given i j s ReadFrom q =
-        some_none 64 (λ x. part S done k i j ReadFrom x j) (λ x l. no_true (part S done k i j ReadFrom x j) (λ h.
+        some_none 64 (λ x. part S done k i j ReadFrom x j) (λ x l. false_from_ne_true (part S done k i j ReadFrom x j) (λ h.
         let r = read_before i j ReadFrom q x j h in
         let same : x ≡ i = eqb-true x i (source (x, i, j) r.0 (ap (λ (z : Edge). S z i j) (sym q) ∙ s)) in
         ⊎_elim (λ (l : x < i). omega arith) (λ (l : (x ≡ i) × (j < j)). omega arith) r.1))
     not_given i j s Order q =
         or_from (part S done k i j Order i j) (part S done k i j Order j i) (not_itself i j Order q)
-        (no_true (part S done k i j Order j i) (λ h. true≢false (sym (read_before i j Order q j i h).0 ∙ way i j (ap (λ (z : Edge). S z i j) (sym q) ∙ s))))
+        (false_from_ne_true (part S done k i j Order j i) (λ h. true≢false (sym (read_before i j Order q j i h).0 ∙ way i j (ap (λ (z : Edge). S z i j) (sym q) ∙ s))))
     not_given i j s Atomic q = not_itself i j Atomic q
     not_given i j s Depend q = not_itself i j Depend q
 
@@ -110,19 +106,17 @@ module _ (ts : List Thread) (es : List Event) (S : EdgeSets) (few : length es �
     -- the sort is done
     finished : (next : Edge → Bool) (q : Edge) → ((e : Edge) → next e ≡ (done e || same_edge k e)) → part S done k (length es) 0 ≡ part S next q 0 0
     finished next q f =
-        same_edge_sets (part S done k (length es) 0) (part S next q 0 0)
+        let n = length es in
+        same_edge_sets (part S done k n 0) (part S next q 0 0)
         (λ e x y h.
-        let p = part_says S done k (length es) 0 e x y h in
-        part_done S next q 0 0 e x y p.0 (f e ∙ ⊎_elim (λ d. or_left (done e) (same_edge k e) d)
-        (λ (r : (k ≡ e) × (before x y (length es) 0 ≡ true)). or_right (done e) (same_edge k e) (ap (λ (z : Edge). same_edge k z) (sym r.0) ∙ own_sort k)) p.1))
+        let p = part_says S done k n 0 e x y h in
+        part_done S next q 0 0 e x y p.0 (f e ∙ ⊎_elim (or_left (done e) (same_edge k e))
+        (λ (r : (k ≡ e) × (before x y n 0 ≡ true)). or_right (done e) (same_edge k e) (ap (λ (z : Edge). same_edge k z) (sym r.0) ∙ own_sort k)) p.1))
         (λ e x y h.
-        let p = part_says S next q 0 0 e x y h in
-        ⊎_elim
-        (λ d. ⊎_elim (λ a. part_done S done k (length es) 0 e x y p.0 a)
-        (λ a. part_before S done k (length es) 0 e x y p.0 (same_sort k e a) (before_first x y (length es) 0 (inside e x y p.0).0))
-        (or_cases (done e) (same_edge k e) (sym (f e) ∙ d)))
-        (λ (r : (q ≡ e) × (before x y 0 0 ≡ true)). absurd (⊎_elim (λ (l : x < 0). omega arith) (λ (l : (x ≡ 0) × (y < 0)). omega arith) (before_says x y 0 0 r.1)))
-        p.1)
+        let p = part_start S next q e x y h in
+        ⊎_elim (part_done S done k n 0 e x y p.0)
+        (λ a. part_before S done k n 0 e x y p.0 (same_sort k e a) (before_first x y n 0 (inside e x y p.0).0))
+        (or_cases (done e) (same_edge k e) (sym (f e) ∙ p.1)))
 
     -- a whole sort
     pub sort_taken : (next : Edge → Bool) (q : Edge) → ((e : Edge) → next e ≡ (done e || same_edge k e))
@@ -135,12 +129,9 @@ pub part_none : (S : EdgeSets) (q : Edge) → part S (λ e. false) q 0 0 ≡ no_
 unfolding no_edges none
 part_none S q =
     same_edge_sets (part S (λ e. false) q 0 0) no_edges
-    (λ e x y h. absurd (⊎_elim (λ (d : false ≡ true). true≢false (sym d))
-    (λ (r : (q ≡ e) × (before x y 0 0 ≡ true)). ⊎_elim (λ (l : x < 0). omega arith) (λ (l : (x ≡ 0) × (y < 0)). omega arith) (before_says x y 0 0 r.1))
-    (part_says S (λ e. false) q 0 0 e x y h).1))
-    (λ e x y h. absurd (true≢false (sym h)))
+    (λ e x y h. absurd (true≢false (sym (part_start S (λ e. false) q e x y h).1))) (λ e x y h. absurd (true≢false (sym h)))
 
 -- all is read
 pub part_all : (S : EdgeSets) (done : Edge → Bool) (q : Edge) → ((e : Edge) → done e ≡ true) → part S done q 0 0 ≡ S
 part_all S done q f =
-    same_edge_sets (part S done q 0 0) S (λ e x y h. (part_says S done q 0 0 e x y h).0) (λ e x y h. part_done S done q 0 0 e x y h (f e))
+    same_edge_sets (part S done q 0 0) S (λ e x y h. (part_start S done q e x y h).0) (λ e x y h. part_done S done q 0 0 e x y h (f e))

@@ -1,17 +1,20 @@
 -- What writing a sheet leaves and answers. Assumes nothing.
-use Rattle.std.specs.Prelude.{◌≡◌, ℕ, ◌+◌, ◌<◌, ◌≤◌, List, ◌++◌, length, take, drop, Ok, Err, Result}
+use Rattle.std.specs.Prelude.{◌≡◌, ℕ, ◌<◌, ◌≤◌, List, ◌++◌, length, take, drop, Ok, Err, Result}
 use Rattle.sheet.specs.declared.calls.Refusal.{Refusal}
 use Rattle.sheet.specs.declared.calls.Refusal.TheVariants.{Memory}
 use Rattle.sheet.specs.Book.{Book}
 use Rattle.sheet.specs.declared.closed.ClosedSheet.{ClosedSheet}
 use Rattle.sheet.specs.Sheets.{closed_book}
 use Rattle.casewriter.specs.Items.{file_of}
+use Rattle.casewriter.specs.declared.writer.Writer.{Writer}
 
--- the bytes bs were put into old at `at`, up to `to`, and it is now new
-pub record Put (old : List ℕ) (at : ℕ) (bs : List ℕ) (to : ℕ) (new : List ℕ) : Type 0 where
-  pub end : to ≡ at + length bs
-  pub room : to ≤ length old
-  pub after : new ≡ take at old ++ (bs ++ drop to old)
+-- bs was put behind what was written, as much of it as fits, and the memory behind is as it was
+pub record Added (old : Writer) (bs : List ℕ) (new : Writer) : Type 0 where
+  pub same_reference : new.memory.ghost_name ≡ old.memory.ghost_name
+  pub size : length new.memory.now ≡ length old.memory.now
+  pub onward : old.at ≤ new.at
+  pub front : take new.at new.memory.now ≡ take (length old.memory.now) (take old.at old.memory.now ++ bs)
+  pub behind : drop new.at new.memory.now ≡ drop new.at old.memory.now
 
 -- the file at the front of memory and its length; or memory too short, and nothing altered
 abbrev pub Written : Book → List ℕ → Result ℕ Refusal → List ℕ → Type 0

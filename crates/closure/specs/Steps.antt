@@ -1,5 +1,5 @@
 -- Kinds of step, and what a closure of a table of steps is. Assumes nothing.
-use Rattle.std.specs.Prelude.{◌≡◌, ℕ, zero, suc, ◌+◌, ◌*◌, ◌<◌, ◌≤◌, ◌⊎◌, List, [], ◌∷◌, ◌++◌, map, length, slice_index_or}
+use Rattle.std.specs.Prelude.{◌≡◌, ℕ, zero, suc, ◌+◌, ◌*◌, ◌<◌, ◌≤◌, List, [], ◌∷◌, ◌++◌, map, length, slice_index_or}
 use Rattle.std.specs.List.{AllByRecursion}
 
 -- What joining (one way or another) and chaining (one step after another) obey.
@@ -66,17 +66,19 @@ joined none join (x ∷ xs) = join x (joined none join xs)
 abbrev pub table : {S : Type 0} → S → ℕ → List S → ℕ → ℕ → S
 table none n xs i j = slice_index_or xs (i * n + j) none
 
--- row i of the table has had the way over k joined to its entries below j, and nothing else is changed
-pub record Relaxed {S : Type 0} (none : S) (join chain : S → S → S) (n k i : ℕ) (before after : List S) (j : ℕ) : Type 0 where
-  pub row : (b : ℕ) → b < j → table none n after i b ≡ join (table none n before i b) (chain (table none n before i k) (table none n before k b))
-  pub above : (p : ℕ) → p < i * n → slice_index_or after p none ≡ slice_index_or before p none
-  pub below : (p : ℕ) → i * n + j ≤ p → slice_index_or after p none ≡ slice_index_or before p none
+-- the row `before` has had, at its entries below j, the way over one event joined: `via` is its step to that event, `over` the event's own row
+pub record Relaxed {S : Type 0} (none : S) (join chain : S → S → S) (via : S) (over before after : List S) (j : ℕ) : Type 0 where
+  pub row : (b : ℕ) → b < j → slice_index_or after b none ≡ join (slice_index_or before b none) (chain via (slice_index_or over b none))
+  pub rest : (b : ℕ) → j ≤ b → slice_index_or after b none ≡ slice_index_or before b none
 
--- the rows from `low` up to `high` have had the way over k joined to their entries, and nothing else is changed
-pub record Swept {S : Type 0} (none : S) (join chain : S → S → S) (n k low : ℕ) (before after : List S) (high : ℕ) : Type 0 where
-  pub done : (a b : ℕ) → low ≤ a → a < high → b < n → table none n after a b ≡ join (table none n before a b) (chain (table none n before a k) (table none n before k b))
-  pub left : (a b : ℕ) → (a < low) ⊎ (high ≤ a) → a < n → b < n → table none n after a b ≡ table none n before a b
-  pub rest : (p : ℕ) → n * n ≤ p → slice_index_or after p none ≡ slice_index_or before p none
+-- the first i rows have had the way over k, whose own row is `over`, joined to their entries, and nothing else is changed
+pub record Swept {S : Type 0} (none : S) (join chain : S → S → S) (k : ℕ) (over before after : List S) (i : ℕ) : Type 0 where
+  pub done : (a b : ℕ) → a < i → b < length over → table none (length over) after a b ≡ join (table none (length over) before a b) (chain (table none (length over) before a k) (slice_index_or over b none))
+  pub rest : (p : ℕ) → i * length over ≤ p → slice_index_or after p none ≡ slice_index_or before p none
+
+-- the way over k has been joined to each entry of the table of n rows
+abbrev pub Passed : {S : Type 0} → S → (S → S → S) → (S → S → S) → ℕ → ℕ → List S → List S → Type 0
+Passed none join chain n k before after = (a b : ℕ) → a < n → b < n → table none n after a b ≡ join (table none n before a b) (chain (table none n before a k) (table none n before k b))
 
 -- `after` is the closure of the table of n rows that `before` begins with
 pub record Closed {S : Type 0} (none : S) (join chain : S → S → S) (n : ℕ) (before after : List S) : Type 0 where

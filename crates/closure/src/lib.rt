@@ -2,12 +2,12 @@
 // and chaining keep the laws of `Laws`.
 #![tactic(auto)]
 
-ghost use Rattle.std.specs.Prelude.{◌≡◌, ℕ, ◌+◌, ◌*◌, ◌<◌, ◌≤◌, true, false, ◌&&◌, ◌||◌, ◌⊎◌, length, Ok, Err};
+ghost use Rattle.std.specs.Prelude.{◌≡◌, ◌*◌, ◌/◌, ◌<◌, ◌≤◌, false, ◌&&◌, ◌||◌, length, Ok, Err};
 ghost use Rattle.closure.specs.declared.Misfit.{Misfit as Reason};
 ghost use Rattle.closure.specs.Kinds.{no_steps, fewer, further};
 ghost use Rattle.closure.specs.Fitting.{fitting};
 ghost use Rattle.closure.specs.Ways.{Reaches, Single, Measures};
-ghost use Rattle.closure.specs.Steps.{Laws, Relaxed, Swept, Closed};
+ghost use Rattle.closure.specs.Steps.{Laws, Relaxed, Swept, Passed, Closed};
 ghost use Rattle.closure.specs.KindLaws.{reach_laws, count_laws};
 
 // One kind of step. `join` makes one value of two ways from an event to another, `chain` one of a step and the step
@@ -44,34 +44,46 @@ pub enum Misfit {
     Values,
 }
 
-// Joins to each entry (i, j) of row i the way over k.
-fn relax<S: Step + Copy>(steps: &mut [S], n: usize, k: usize, i: usize)
-    requires { (n ≤ 64) × ((n * n ≤ length steps.old) × ((k < n) × (i < n))) }
-    ensures { Relaxed S.none S.join S.chain n k i steps.old steps.new n }
+// Joins to each entry of a row the way over one event: `via` is the row's step to that event, `over` the event's own row.
+fn relax<S: Step + Copy>(row: &mut [S], via: S, over: &[S])
+    requires { length row.old ≡ length over.now }
+    ensures { Relaxed S.none S.join S.chain via over.now row.old row.new (length row.old) }
 {
-    let via = steps[i * n + k];
-    for j in 0..n {
-        let over = via.chain(steps[k * n + j]);
-        let at = i * n + j;
-        steps[at] = steps[at].join(over);
+    // Behind a `zip` over `iter_mut` a proof knows no entry of the row, so `over` is read by the index.
+    for (j, to) in row.iter_mut().enumerate() {
+        *to = to.join(via.chain(over[j]));
     }
 }
 
-// Joins the way over k to the rows from `low` up to `high`. Row k is not among them, so that the compiler sees no row
-// that is read while it is written, and vectorises.
-fn sweep<S: Step + Copy>(steps: &mut [S], n: usize, k: usize, low: usize, high: usize)
-    requires room { (n ≤ 64) × ((n * n ≤ length steps.old) × (k < n)) }
-    requires rows { (low ≤ high) × (high ≤ n) }
-    requires apart { (k < low) ⊎ (high ≤ k) }
-    ensures { Swept S.none S.join S.chain n k low steps.old steps.new high }
+// Joins the way over k, whose own row is `over`, to each of these rows.
+fn sweep<S: Step + Copy>(rows: &mut [S], k: usize, over: &[S])
+    requires { k < length over.now }
+    ensures { Swept S.none S.join S.chain k over.now rows.old rows.new (length rows.old / length over.now) }
 {
-    for i in low..high {
-        relax(steps, n, k, i);
+    let n = over.len();
+    // After `chunks_exact_mut` a proof knows no entry of the rows, so each row is cut out by its range.
+    for i in 0..rows.len() / n {
+        let row = &mut rows[i * n..(i + 1) * n];
+        let via = row[k];
+        relax(row, via, over);
     }
+}
+
+// Joins the way over k to each entry. Row k itself gains nothing from it, and is lent to the rows above it and below it. The number of
+// rows stands beside the table, whose length gives only its square.
+fn pass<S: Step + Copy>(table: &mut [S], n: usize, k: usize)
+    requires { (n ≤ 64) × ((length table.old ≡ n * n) × (k < n)) }
+    ensures { Passed S.none S.join S.chain n k table.old table.new }
+{
+    let (above, rest) = table.split_at_mut(k * n);
+    let (over, below) = rest.split_at_mut(n);
+    sweep(above, k, over);
+    sweep(below, k, over);
 }
 
 // Closes, in place, the table of n rows and n columns at the front of the slice, entry (i, j) at i * n + j. A table of
-// more than 64 rows or a slice too short for it is refused, and then nothing is altered.
+// more than 64 rows or a slice too short for it is refused, and then nothing is altered. The number of rows stands beside the
+// slice, since the slice may be longer than the table.
 pub fn close<S: Step + Copy>(steps: &mut [S], n: usize) -> Result<(), Misfit>
     ensures answer { result ≡ fitting n (length steps.old) }
     ensures closed { result ≡ Ok tt → Closed S.none S.join S.chain n steps.old steps.new }
@@ -83,10 +95,9 @@ pub fn close<S: Step + Copy>(steps: &mut [S], n: usize) -> Result<(), Misfit>
     if steps.len() < n * n {
         return Err(Misfit::Values);
     }
+    let table = &mut steps[..n * n];
     for k in 0..n {
-        // Row k itself gains nothing from the way over k.
-        sweep(steps, n, k, 0, k);
-        sweep(steps, n, k, k + 1, n);
+        pass(table, n, k);
     }
     Ok(())
 }
@@ -114,17 +125,11 @@ impl Step for bool {
     }
 }
 
-// How many steps a way has, at most 64, or that there is none.
-#[derive(Clone, Copy, PartialEq, Eq, Debug)]
-pub enum Count {
-    Never,
-    Steps(u8),
-}
-
 // The longest way that is counted.
-const LONGEST: u16 = 64;
+const LONGEST: u8 = 64;
 
-impl Step for Count {
+// How many steps a way has, at most 64, or `None` where there is none.
+impl Step for Option<u8> {
     ghost none = { no_steps };
 
     ghost join = { fewer };
@@ -133,30 +138,21 @@ impl Step for Count {
 
     ghost lawful = { count_laws };
 
-    fn none() -> Count {
-        Count::Never
+    fn none() -> Option<u8> {
+        None
     }
 
-    fn join(self, other: Count) -> Count {
+    // Where the other is `None`, the compiler sees that nothing is altered: a row with no step to k takes little time.
+    fn join(self, other: Option<u8>) -> Option<u8> {
         match (self, other) {
-            (Count::Never, y) => y,
-            (x, Count::Never) => x,
-            (Count::Steps(a), Count::Steps(b)) => Count::Steps(if a < b { a } else { b }),
+            (_, None) => self,
+            (None, _) => other,
+            (Some(a), Some(b)) => Some(a.min(b)),
         }
     }
 
-    fn chain(self, other: Count) -> Count {
-        match (self, other) {
-            (Count::Steps(a), Count::Steps(b)) => {
-                let sum = a as u16 + b as u16;
-                if sum <= LONGEST {
-                    Count::Steps(sum as u8)
-                } else {
-                    Count::Never
-                }
-            }
-            _ => Count::Never,
-        }
+    fn chain(self, other: Option<u8>) -> Option<u8> {
+        self?.checked_add(other?).filter(|&sum| sum <= LONGEST)
     }
 }
 
@@ -171,8 +167,8 @@ pub fn reach(steps: &mut [bool], n: usize) -> Result<(), Misfit>
 }
 
 // The closure at step counts. On a table of single steps an entry is the length of the shortest chain from i to j, or
-// `Never` if there is no chain of any length.
-pub fn distances(steps: &mut [Count], n: usize) -> Result<(), Misfit>
+// `None` if there is no chain of any length.
+pub fn distances(steps: &mut [Option<u8>], n: usize) -> Result<(), Misfit>
     ensures answer { result ≡ fitting n (length steps.old) }
     ensures closed { result ≡ Ok tt → Closed no_steps fewer further n steps.old steps.new }
     ensures measures { result ≡ Ok tt → Single n steps.old → Measures n steps.old steps.new }

@@ -1,5 +1,5 @@
 -- The list of open pairs, one pair and one row more.
-use Rattle.std.proofs.Common.{◌≡◌, ℕ, zero, suc, ◌+◌, ◌<◌, ◌≤◌, Bool, true, false, cond, ◌&&◌, ltb, List, [], ◌∷◌, ◌++◌, length, sym, ap, ◌∙◌, subst, ⊎_elim, append-nil, le_refl, add-one, arith, length-append}
+use Rattle.std.proofs.Common.{◌≡◌, ℕ, zero, suc, ◌+◌, ◌<◌, ◌≤◌, Bool, true, cond, ◌&&◌, ltb, List, [], ◌∷◌, ◌++◌, length, sym, ap, ◌∙◌, subst, ⊎_elim, le_refl, add-one, arith, length-append}
 use Rattle.std.proofs.lemmas.Bool.{cases_lt}
 use Rattle.relation.specs.Algebra.{Rel}
 use Rattle.completion.specs.Openings.{open_in_row, open_rows}
@@ -7,10 +7,6 @@ use Rattle.completion.specs.Openings.{open_in_row, open_rows}
 pub row_listed : (f : Rel) (a b : ℕ) → (ltb a b && f a b) ≡ true → open_in_row f a (b + 1) ≡ open_in_row f a b ++ ((a, b) ∷ [])
 row_listed f a b e =
     ap (open_in_row f a) (add-one b) ∙ ap (λ (t : Bool). open_in_row f a b ++ cond t ((a, b) ∷ []) []) e
-
-pub row_passed : (f : Rel) (a b : ℕ) → (ltb a b && f a b) ≡ false → open_in_row f a (b + 1) ≡ open_in_row f a b
-row_passed f a b e =
-    ap (open_in_row f a) (add-one b) ∙ ap (λ (t : Bool). open_in_row f a b ++ cond t ((a, b) ∷ []) []) e ∙ append-nil (open_in_row f a b)
 
 pub row_grows : (f : Rel) (a b n : ℕ) → b ≤ n → length (open_in_row f a b) ≤ length (open_in_row f a n)
 row_grows f a b zero h = let e : b ≡ 0 = omega arith in subst (λ (k : ℕ). length (open_in_row f a k) ≤ length (open_in_row f a 0)) (sym e) (le_refl _)

@@ -13,8 +13,7 @@ pub fn complete(order: &Relation, pairs: &OpenPairs, completion: u16) -> Relatio
     ensures { holds result ≡ holds order.now ∪ added (listed pairs.now) completion }
 {
     let mut all = *order;
-    for i in 0..pairs.count {
-        let (low, high) = pairs.at[i];
+    for (i, &(low, high)) in pairs.list.iter().enumerate() {
         if (completion >> i) & 1 == 1 {
             all.add(high, low);
         } else {

@@ -1,25 +1,22 @@
 -- The table of counts in the words of paths. Assumes nothing.
-use Rattle.std.proofs.Common.{◌≡◌, ℕ, suc, ◌+◌, ◌*◌, ◌/◌, ◌%◌, ◌<◌, ◌≤◌, Bool, true, false, ◌⊎◌, List, [], ◌∷◌, length, sym, refl, ap, ◌∙◌, ap₂, inl, inr, ⊎_elim, arith}
+use Rattle.std.proofs.Common.{◌≡◌, ℕ, suc, ◌+◌, ◌*◌, ◌/◌, ◌%◌, ◌<◌, ◌≤◌, Bool, true, false, ◌⊎◌, List, [], ◌∷◌, length, sym, refl, ap, ◌∙◌, ap₂, inl, inr, ⊎_elim, Some, None, Option, arith}
 use Rattle.std.proofs.lemmas.Bool.{cases_lt}
+use Rattle.std.specs.Bool.{then_some}
 use Rattle.closure.specs.Steps.{table}
 use Rattle.closure.specs.Ways.{Chain, one, more, long, Single, Next, Measures, Shortest as Length}
-use Rattle.closure.specs.declared.Count.{Count}
-use Rattle.closure.specs.declared.Count.TheVariants.{Never, Steps}
 use Rattle.closure.proofs.Reached.{walks_chain, chain_walks}
 use Rattle.relation.specs.Algebra.{Rel}
 use Rattle.relation.specs.Meaning.{holds}
 use Rattle.relation.specs.declared.Relation.{Relation}
 use Rattle.relation.proofs.Relations.{holds_starts, holds_ends}
 use Rattle.cycles.specs.Cycles.{Path, Cycle, Inside, CyclesAreChains}
-use Rattle.cycles.specs.Counts.{step_if, amount, apart, Stepped, Counted}
-
-unlike : {P : Type 0} (b : Bool) → b ≡ true → b ≡ false → P
-unlike b p q = let z : ◌≡◌ {A = ℕ} 0 1 = cc in absurd (omega arith)
+use Rattle.cycles.specs.Counts.{apart, Stepped, Counted}
+use Rattle.cycles.specs.declared.Distances.{Distances}
 
 pub holds_inside : (r : Relation) → Inside (holds r)
 holds_inside r i j e = (
-  ⊎_elim (λ l. l) (λ l. unlike (holds r i j) e (holds_starts r i j l)) (cases_lt i 64),
-  ⊎_elim (λ l. l) (λ l. unlike (holds r i j) e (holds_ends r i j l)) (cases_lt j 64),
+  ⊎_elim (λ l. l) (λ l. let z = holds_starts r i j l in cc) (cases_lt i 64),
+  ⊎_elim (λ l. l) (λ l. let z = holds_ends r i j l in cc) (cases_lt j 64),
 )
 
 pub path_inside : (R : Rel) → Inside R → (i j : ℕ) (vs : List ℕ) → Path R i vs j → (i < 64) × (j < 64)
@@ -67,18 +64,18 @@ short R n i j vs p =
     let t = path_of R (λ a b. R a b ≡ true) (λ a b k l r. r) i j e.0 e.1 w.0 in
     (t.0, t.1, omega (arith, t.2, w.1))
 
-module _ (R : Rel) (n : Inside R) (before : List Count) (s : Stepped R before 4096) where
-  stepped_at : (a b : ℕ) → a < 64 → b < 64 → table Never 64 before a b ≡ step_if (R a b)
+module _ (R : Rel) (n : Inside R) (before : List (Option ℕ)) (s : Stepped R before) where
+  stepped_at : (a b : ℕ) → a < 64 → b < 64 → table None 64 before a b ≡ then_some (R a b) 1
   stepped_at a b k l =
       let p : (a * 64 + b) / 64 ≡ a = omega arith in
       let q : (a * 64 + b) % 64 ≡ b = omega arith in
-      s (a * 64 + b) (omega arith) ∙ ap₂ (λ x y. step_if (R x y)) p q
+      s (a * 64 + b) (omega arith) ∙ ap₂ (λ x y. then_some (R x y) 1) p q
 
-  was_one : (b : Bool) → step_if b ≡ Steps 1 → b ≡ true
+  was_one : (b : Bool) → then_some {T = ℕ} b 1 ≡ Some 1 → b ≡ true
   was_one true e = refl
-  was_one false e = let z : ◌≡◌ {A = ℕ} 0 1 = cc in absurd (omega arith)
+  was_one false e = cc
 
-  one_or_none : (b : Bool) → (step_if b ≡ Never) ⊎ (step_if b ≡ Steps 1)
+  one_or_none : (b : Bool) → (then_some {T = ℕ} b 1 ≡ None) ⊎ (then_some {T = ℕ} b 1 ≡ Some 1)
   one_or_none true = inr refl
   one_or_none false = inl refl
 
@@ -86,29 +83,32 @@ module _ (R : Rel) (n : Inside R) (before : List Count) (s : Stepped R before 40
   stepped_single i j k l = ⊎_elim (λ e. inl (stepped_at i j k l ∙ e)) (λ e. inr (stepped_at i j k l ∙ e)) (one_or_none (R i j))
 
   to_next : (a b : ℕ) → a < 64 → b < 64 → R a b ≡ true → Next 64 before a b
-  to_next a b k l r = stepped_at a b k l ∙ ap step_if r
+  to_next a b k l r = stepped_at a b k l ∙ ap (λ x. then_some x 1) r
 
   from_next : (a b : ℕ) → a < 64 → b < 64 → Next 64 before a b → R a b ≡ true
   from_next a b k l h = was_one (R a b) (sym (stepped_at a b k l) ∙ h)
 
-  path_at : (i j : ℕ) → i < 64 → j < 64 → (x : Count) → Length (Next 64 before) 64 i j x → amount x ≤ 64 → (vs : List ℕ) × Path R i vs j × (suc (length vs) ≡ amount x)
-  path_at i j k l Never m h = absurd (omega arith)
-  path_at i j k l (Steps d) m h =
-      let t = path_of R (Next 64 before) from_next i j k l m.0.0 in (t.0, t.1, t.2 ∙ m.0.1)
+  path_at : (i j d : ℕ) → i < 64 → j < 64 → (x : Option ℕ) → Length (Next 64 before) 64 i j x → x ≡ Some d → (vs : List ℕ) × Path R i vs j × (suc (length vs) ≡ d)
+  path_at i j d k l None m e = cc
+  path_at i j d k l (Some a) m e =
+      let t = path_of R (Next 64 before) from_next i j k l m.0.0 in
+      let same : a ≡ d = cc in (t.0, t.1, t.2 ∙ m.0.1 ∙ same)
 
-  least_at : (i j : ℕ) (vs : List ℕ) → Path R i vs j → (x : Count) → Length (Next 64 before) 64 i j x → amount x ≤ suc (length vs)
-  least_at i j vs p Never m = absurd (m (chain_of R (Next 64 before) n to_next i j vs p).0)
-  least_at i j vs p (Steps d) m =
-      let c = chain_of R (Next 64 before) n to_next i j vs p in omega (arith, c.1, m.1 c.0)
+  least_at : (i j : ℕ) (vs : List ℕ) → Path R i vs j → (x : Option ℕ) → Length (Next 64 before) 64 i j x → (d : ℕ) × (x ≡ Some d) × (d ≤ suc (length vs))
+  least_at i j vs p None m = absurd (m (chain_of R (Next 64 before) n to_next i j vs p).0)
+  least_at i j vs p (Some a) m =
+      let c = chain_of R (Next 64 before) n to_next i j vs p in (a, refl, omega (arith, c.1, m.1 c.0))
 
-  pub counted : (after : List Count) → Measures 64 before after → Counted R (apart after)
-  unfolding apart
+  pub counted : (after : Distances) → Measures 64 before after.steps → Counted R (apart after)
   counted after m =
+      let x : ℕ → ℕ → Option ℕ = table None 64 after.steps in
       record {
-        path = λ i j k l h. path_at i j k l (table Never 64 after i j) (m i j k l) h;
-        least = λ i j vs p. let e = path_inside R n i j vs p in least_at i j vs p (table Never 64 after i j) (m i j e.0 e.1);
-        small = λ i j vs p.
-            let e = path_inside R n i j vs p in
-            let t = short R n i j vs p in
-            omega (arith, t.2, least_at i j t.0 t.1 (table Never 64 after i j) (m i j e.0 e.1));
+        path = λ i j d k l e. path_at i j d k l (x i j) (m i j k l) e;
+        least = λ i j vs p. let e = path_inside R n i j vs p in least_at i j vs p (x i j) (m i j e.0 e.1);
+        small = λ i j d k l e.
+            let p = path_at i j d k l (x i j) (m i j k l) e in
+            let t = short R n i j p.0 p.1 in
+            let q = least_at i j t.0 t.1 (x i j) (m i j k l) in
+            let same : d ≡ q.0 = cc (e, q.1) in
+            omega (arith, t.2, q.2);
       }

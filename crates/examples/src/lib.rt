@@ -4,7 +4,7 @@
 #[cfg(test)]
 mod tests {
     use casefile::case::Case;
-    use closure::{Count, Misfit, distances, reach};
+    use closure::{Misfit, distances, reach};
     use cycles::shortest_cycle;
     use records::fault::{Cause, Fault};
     use records::mark::{Mark, Record};
@@ -25,7 +25,7 @@ mod tests {
 
     #[test]
     fn a_short_slice_is_refused(rt: HostRuntime) {
-        let mut steps = [Count::Never; 8];
+        let mut steps = [None; 8];
         assert_eq!(rt; distances(&mut steps, 3), Err(Misfit::Values));
         assert_eq!(rt; distances(&mut steps, 65), Err(Misfit::Rows));
     }

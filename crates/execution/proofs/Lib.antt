@@ -1,3 +1,4 @@
+pub mod Counting
 pub mod Edging
 pub mod Tying
 pub mod Joining

@@ -1,6 +1,7 @@
 -- Which events a tie joins.
-use Rattle.std.proofs.Common.{◌≡◌, ℕ, ◌<◌, ◌≤◌, min, Bool, true, false, ◌&&◌, ltb, List, length, refl, ap, ◌∙◌, arith}
+use Rattle.std.proofs.Common.{◌≡◌, ℕ, ◌<◌, ◌≤◌, min, Bool, true, false, ◌&&◌, ltb, List, length, sym, refl, ap, ◌∙◌, arith}
 use mathlib.Core.Path.{fun_ext}
+use Rattle.std.proofs.Math.Bool.{and-false}
 use Rattle.std.proofs.lemmas.Bool.{lt-ltb, le-ltb}
 use Rattle.relation.specs.Algebra.{Rel, cut, upto}
 use Rattle.sheet.specs.Rules.{at}
@@ -19,13 +20,9 @@ pub cut_first : (n : ℕ) (p : Rel) (a b : ℕ) → n ≤ a → false ≡ cut n 
 unfolding cut
 cut_first n p a b l = let x = le-ltb a n l in rw x refl
 
-and_false : (t : Bool) → false ≡ (t && false)
-and_false true = refl
-and_false false = refl
-
 pub cut_second : (n : ℕ) (p : Rel) (a b : ℕ) → n ≤ b → false ≡ cut n p a b
 unfolding cut
-cut_second n p a b l = let x = le-ltb b n l in rw x (and_false (ltb a n))
+cut_second n p a b l = let x = le-ltb b n l in rw x (sym (and-false (ltb a n)))
 
 module _ (ts : List Thread) (es : List Event) (t : Tie) (a b : ℕ) where
   pub tied_at : a < length es → b < length es → ties t ts a (at es a) b (at es b) ≡ tied ts es t a b

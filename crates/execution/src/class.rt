@@ -44,18 +44,18 @@ impl Class {
         ensures { result ≡ in_class self e }
     {
         match self {
-            Class::Read => matches!(e.kind, Kind::Read),
-            Class::Write => matches!(e.kind, Kind::Write),
+            Class::Read => e.kind == Kind::Read,
+            Class::Write => e.kind == Kind::Write,
             Class::Access => matches!(e.kind, Kind::Read | Kind::Write),
             Class::NonAccess => matches!(e.kind, Kind::MemoryFence | Kind::ProxyFence),
-            Class::ReleaseWrite => matches!(e.kind, Kind::Write) && releases(e.grade),
-            Class::AcquireRead => matches!(e.kind, Kind::Read) && acquires(e.grade),
-            Class::ReleaseFence => matches!(e.kind, Kind::MemoryFence) && releases(e.grade),
-            Class::AcquireFence => matches!(e.kind, Kind::MemoryFence) && acquires(e.grade),
-            Class::ScFence => matches!((e.kind, e.grade), (Kind::MemoryFence, Grade::Sc)),
-            Class::ProxyFence => matches!(e.kind, Kind::ProxyFence),
-            Class::Generic => matches!(e.proxy, Proxy::Generic),
-            Class::NonGeneric => !matches!(e.proxy, Proxy::Generic),
+            Class::ReleaseWrite => e.kind == Kind::Write && releases(e.grade),
+            Class::AcquireRead => e.kind == Kind::Read && acquires(e.grade),
+            Class::ReleaseFence => e.kind == Kind::MemoryFence && releases(e.grade),
+            Class::AcquireFence => e.kind == Kind::MemoryFence && acquires(e.grade),
+            Class::ScFence => e.kind == Kind::MemoryFence && e.grade == Grade::Sc,
+            Class::ProxyFence => e.kind == Kind::ProxyFence,
+            Class::Generic => e.proxy == Proxy::Generic,
+            Class::NonGeneric => e.proxy != Proxy::Generic,
         }
     }
 }

@@ -18,10 +18,9 @@ use sheet::closed::ClosedSheet;
 pub fn class(sheet: &ClosedSheet, class: Class) -> Row
     ensures { members result ≡ those (closed_book sheet.now).events class }
 {
-    let events = sheet.events();
     let mut all = Row::empty();
-    for i in 0..events.len() {
-        all = all.union(Row::of(i).only_if(class.has(events[i])));
+    for (i, e) in sheet.events().iter().enumerate() {
+        all = all.union(Row::of(i).only_if(class.has(*e)));
     }
     all
 }
@@ -33,12 +32,12 @@ pub fn tied(sheet: &ClosedSheet, tie: Tie) -> Relation
     tabulate(&Tied { sheet, tie }, sheet.events().len())
 }
 
-// Whether a is an event of the class.
+// Whether a is an event of the class; of one event, no row is laid out. Sheet and events stand apart: a struct of them would be taken
+// apart at once.
 pub fn is_of(sheet: &ClosedSheet, class: Class, a: usize) -> bool
     ensures { result ≡ those (closed_book sheet.now).events class a }
 {
-    let events = sheet.events();
-    a < events.len() && class.has(events[a])
+    sheet.events().get(a).is_some_and(|e| class.has(*e))
 }
 
 // Whether a and b are events with the tie.

@@ -3,7 +3,7 @@ ghost use Rattle.std.specs.Prelude.{◌≡◌};
 ghost use Rattle.relation.specs.Meaning.{holds};
 ghost use Rattle.sheet.specs.Sheets.{closed_book};
 ghost use Rattle.execution.specs.Facts.{facts};
-ghost use Rattle.execution.specs.Readings.{Reads, co_by, fr_by};
+ghost use Rattle.execution.specs.Readings.{Reads, Coheres, co_by, fr_by};
 ghost use Rattle.execution.specs.Words.{rivals};
 
 use crate::class::Class;
@@ -22,6 +22,15 @@ pub struct Reading {
     pub unsourced: Relation,
     // from a read to its source
     pub source: Relation,
+}
+
+// Communication between writes, and from reads to writes, under an order.
+#[derive(Clone, Copy)]
+pub struct Coherence {
+    pub co: Relation,
+    // the closure of coherence order
+    pub co_plus: Relation,
+    pub fr: Relation,
 }
 
 impl Reading {
@@ -53,9 +62,20 @@ impl Reading {
         self.unsourced
             .union(&self.near.intersection(&self.source.then(co_plus)))
     }
+
+    // Coherence order, its closure and from-read under an order.
+    pub fn under(&self, order: &Relation) -> Coherence
+        ensures { Coheres result self.now (holds order.now) }
+    {
+        let co = self.co(order);
+        let co_plus = co.plus();
+        let fr = self.fr(&co_plus);
+        Coherence { co, co_plus, fr }
+    }
 }
 
 // Different writes to one address.
+#[tactic(auto, unfolding(crate::specs::Words::rivals))]
 pub fn rivals(sheet: &ClosedSheet) -> Relation
     ensures { holds result ≡ rivals (closed_book sheet.now).threads (closed_book sheet.now).events }
 {
@@ -66,7 +86,7 @@ pub fn rivals(sheet: &ClosedSheet) -> Relation
         .difference(&tied(sheet, Tie::Itself))
 }
 
-// Whether a and b are different writes to one address.
+// Whether a and b are different writes to one address; of one pair, no relation is laid out.
 pub fn are_rivals(sheet: &ClosedSheet, a: usize, b: usize) -> bool
     ensures { result ≡ rivals (closed_book sheet.now).threads (closed_book sheet.now).events a b }
 {

@@ -1,15 +1,15 @@
 // Relations between events by their rows.
-ghost use Rattle.std.specs.Prelude.{◌≡◌, length};
-ghost use Rattle.relation.specs.Algebra.{cut};
+ghost use Rattle.std.specs.Prelude.{◌≡◌};
 ghost use Rattle.sheet.specs.Sheets.{closed_book};
-ghost use Rattle.execution.specs.Ties.{thread_of, covers, same_proxy, ties, tied};
+ghost use Rattle.execution.specs.Ties.{thread_of, covers, ties, tied};
 
 use crate::class::Class;
 use relation::Pairs;
 use sheet::closed::ClosedSheet;
 use sheet::row::{Event, Thread};
-use sheet::words::{Proxy, Scope};
+use sheet::words::Scope;
 
+// An enum in place of a closure, since the specification names each tie.
 #[derive(Clone, Copy)]
 pub enum Tie {
     // of one thread, the lower number first
@@ -28,15 +28,7 @@ pub enum Tie {
 fn thread_of(threads: &[Thread], e: Event) -> Thread
     ensures { result ≡ thread_of threads.now e }
 {
-    let t = e.thread as usize;
-    if t < threads.len() {
-        threads[t]
-    } else {
-        Thread {
-            block: 0,
-            device: 0,
-        }
-    }
+    threads.get(e.thread as usize).copied().unwrap_or_default()
 }
 
 // Whether the scope of `e` covers the thread of `f`.
@@ -53,30 +45,26 @@ fn covers(threads: &[Thread], e: Event, f: Event) -> bool
     }
 }
 
-fn is_same_proxy(a: Proxy, b: Proxy) -> bool
-    ensures { result ≡ same_proxy a b }
-{
-    match (a, b) {
-        (Proxy::Generic, Proxy::Generic) => true,
-        (Proxy::Constant, Proxy::Constant) => true,
-        (Proxy::Texture, Proxy::Texture) => true,
-        (Proxy::Surface, Proxy::Surface) => true,
-        _ => false,
-    }
+// An event and its number.
+#[derive(Clone, Copy)]
+struct Numbered {
+    number: usize,
+    event: Event,
 }
 
 impl Tie {
-    // Whether event `a`, which is `e`, has this tie to event `b`, which is `f`.
-    fn joins(self, threads: &[Thread], a: usize, e: Event, b: usize, f: Event) -> bool
-        ensures { result ≡ ties self threads.now a e b f }
+    // Whether event `a` has this tie to event `b`.
+    fn joins(self, threads: &[Thread], a: Numbered, b: Numbered) -> bool
+        ensures { result ≡ ties self threads.now a.number a.event b.number b.event }
     {
+        let (e, f) = (a.event, b.event);
         match self {
-            Tie::ProgramOrder => a < b && e.thread == f.thread,
+            Tie::ProgramOrder => a.number < b.number && e.thread == f.thread,
             Tie::Location => Class::Access.has(e) && Class::Access.has(f) && e.address == f.address,
             Tie::Strong => covers(threads, e, f) && covers(threads, f, e),
-            Tie::SameProxy => is_same_proxy(e.proxy, f.proxy),
+            Tie::SameProxy => e.proxy == f.proxy,
             Tie::SameBlock => thread_of(threads, e).block == thread_of(threads, f).block,
-            Tie::Itself => a == b,
+            Tie::Itself => a.number == b.number,
         }
     }
 }
@@ -93,11 +81,17 @@ impl Pairs for Tied<'_> {
 
     fn related(&self, i: usize, j: usize) -> bool {
         let events = self.sheet.events();
-        if i < events.len() && j < events.len() {
-            self.tie
-                .joins(self.sheet.threads(), i, events[i], j, events[j])
-        } else {
-            false
-        }
+        let (Some(e), Some(f)) = (events.get(i), events.get(j)) else {
+            return false;
+        };
+        let a = Numbered {
+            number: i,
+            event: *e,
+        };
+        let b = Numbered {
+            number: j,
+            event: *f,
+        };
+        self.tie.joins(self.sheet.threads(), a, b)
     }
 }

@@ -1,6 +1,7 @@
 -- Different writes to one address, and other ties that go both ways.
 use Rattle.std.proofs.Common.{◌≡◌, ℕ, zero, suc, Bool, true, false, not, ◌&&◌, eqb, ltb, List, length, sym, refl, ap, ◌∙◌}
 use mathlib.Core.Bool.{and_comm}
+use Rattle.std.proofs.Math.Bool.{and-false}
 use Rattle.std.proofs.lemmas.Bool.{and_parts, and_from, or_left, ltb-true}
 use Rattle.relation.specs.Algebra.{cut, upto, ◌∖◌, ◌◁◌, ◌▷◌}
 use Rattle.sheet.specs.Book.{known, both_known}
@@ -50,16 +51,8 @@ strong_flip ts a b e f = and_comm (covers ts e f) (covers ts f e)
 
 turn : (a b c d t u : Bool) → c ≡ d → t ≡ u → (((a && c) && b) && not t) ≡ (((b && d) && a) && not u)
 turn true true c d t u e f = rw (e, f) refl
-turn true false c d t u e f = ap (λ x. x && not t) (and_no (c))
-  where
-    and_no : (x : Bool) → (x && false) ≡ false
-    and_no true = refl
-    and_no false = refl
-turn false b c d t u e f = sym (ap (λ x. x && not u) (no (b && d)))
-  where
-    no : (x : Bool) → (x && false) ≡ false
-    no true = refl
-    no false = refl
+turn true false c d t u e f = ap (λ x. x && not t) (and-false c)
+turn false b c d t u e f = sym (ap (λ x. x && not u) (and-false (b && d)))
 
 pub rivals_flip : (ts : List Thread) (es : List Event) (a b : ℕ) → rivals ts es a b ≡ rivals ts es b a
 unfolding rivals ◌∖◌ ◌◁◌ ◌▷◌

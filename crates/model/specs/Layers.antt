@@ -1,11 +1,12 @@
 -- The laws of the view layer, and where it makes no difference.
-use Rattle.std.specs.Prelude.{◌≡◌, ℕ, zero, suc, ◌<◌, Bool, true, false, List, [], ◌∷◌, length, refl}
-use Rattle.std.proofs.Common.{sym, ap, ◌∙◌, inl, arith}
+use Rattle.std.specs.Prelude.{◌≡◌, ℕ, ◌<◌, Bool, true, List, length, refl}
+use Rattle.std.proofs.Common.{sym, ap, ◌∙◌, inl}
 use Rattle.std.proofs.lemmas.Bool.{and_parts, and_from, ltb-true}
+use Rattle.std.proofs.lemmas.List.Recursion.{and_at}
 use Rattle.relation.specs.Algebra.{Rel, ◌∩◌}
 use Rattle.relation.proofs.Laws.{same_pairs, in_union}
 use Rattle.sheet.specs.Book.{known}
-use Rattle.sheet.specs.Rules.{at, every, generic}
+use Rattle.sheet.specs.Rules.{at, every, generic, no_event}
 use Rattle.sheet.specs.declared.row.Event.{Event}
 use Rattle.sheet.specs.declared.row.Thread.{Thread}
 use Rattle.sheet.specs.declared.words.Proxy.{Proxy}
@@ -36,18 +37,16 @@ viewed_lawful m laws =
 -- ---- generic events
 
 pub every_at : (p : Event → Bool) (es : List Event) (a : ℕ) → every p es ≡ true → a < length es → p (at es a) ≡ true
-every_at p [] a h l = absurd (omega arith)
-every_at p (e ∷ es) zero h l = (and_parts (p e) (every p es) h).0
-every_at p (e ∷ es) (suc a) h l = every_at p es a (and_parts (p e) (every p es) h).1 (omega arith)
+every_at p es a h l = and_at (every p) p refl (λ _ _. refl) es a no_event l h
 
 pub one_proxy : (p q : Proxy) → generic p ≡ true → generic q ≡ true → same_proxy p q ≡ true
 one_proxy Generic Generic g h = refl
 one_proxy Generic Constant g h = h
 one_proxy Generic Texture g h = h
 one_proxy Generic Surface g h = h
-one_proxy Constant q g h = let z : ◌≡◌ {A = Bool} false true = g in absurd (let y : ◌≡◌ {A = ℕ} 0 1 = cc in omega arith)
-one_proxy Texture q g h = let z : ◌≡◌ {A = Bool} false true = g in absurd (let y : ◌≡◌ {A = ℕ} 0 1 = cc in omega arith)
-one_proxy Surface q g h = let z : ◌≡◌ {A = Bool} false true = g in absurd (let y : ◌≡◌ {A = ℕ} 0 1 = cc in omega arith)
+one_proxy Constant q g h = cc
+one_proxy Texture q g h = cc
+one_proxy Surface q g h = cc
 
 -- among generic events all have one proxy
 pub generic_same : (ts : List Thread) (es : List Event) → all_generic es ≡ true → (r : Rel) → Joins es r → (a b : ℕ) → r a b ≡ true → tied ts es SameProxy a b ≡ true

@@ -28,7 +28,7 @@ pub trait MemoryModel {
     // the relation of an axiom by what was prepared and laid out
     ghost shows: { Self.Prepared → Self.Laid → ℕ → Rel };
 
-    // How many axioms there are.
+    // How many axioms there are. They go by number: the rules number them, and what is printed names them so.
     fn axioms(&self) -> usize
         ensures { result ≡ length (meaning self.now).kinds };
 
@@ -36,7 +36,7 @@ pub trait MemoryModel {
     fn kind(&self, number: usize) -> AxiomKind
         ensures { result ≡ kind_at (meaning self.now).kinds number };
 
-    // Whether the two events need an order; not if one is absent.
+    // Whether the two events need an order; not if one is absent. A struct of sheet and events would be taken apart at once.
     fn needs(&self, sheet: &ClosedSheet, a: usize, b: usize) -> bool
         ensures { result ≡ (meaning self.now).need (closed_book sheet.now).threads (closed_book sheet.now).events a b };
 

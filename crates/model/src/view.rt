@@ -1,6 +1,6 @@
 // The view layer: a model over any model. It hands down less of program order, since an access through another proxy is not
 // ordered with its neighbours unless a proxy fence stands between.
-ghost use Rattle.std.specs.Prelude.{◌≡◌, ℕ, true};
+ghost use Rattle.std.specs.Prelude.{◌≡◌, true};
 ghost use Rattle.execution.specs.Facts.{facts};
 ghost use Rattle.sheet.specs.Sheets.{closed_book};
 ghost use Rattle.model.specs.View.{seen, viewed, all_generic, SameMeaning, Transparent};
@@ -73,12 +73,7 @@ impl<M: MemoryModel> MemoryModel for View<M> {
 pub fn is_generic(sheet: &ClosedSheet) -> bool
     ensures { result ≡ all_generic (closed_book sheet.now).events }
 {
-    for e in sheet.events() {
-        if !Class::Generic.has(*e) {
-            return false;
-        }
-    }
-    true
+    sheet.events().iter().all(|e| Class::Generic.has(*e))
 }
 
 impl<M: MemoryModel> View<M> {

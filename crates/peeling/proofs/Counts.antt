@@ -1,5 +1,6 @@
 -- A set without one of its members.
 use Rattle.std.proofs.Common.{◌≡◌, ℕ, zero, suc, ◌<◌, Bool, true, false, cond, not, ◌&&◌, ltb, sym, refl, ap, ◌∙◌, ap₂, ⊎_elim, arith}
+use Rattle.std.proofs.Math.Bool.{and-true, and-false}
 use Rattle.std.proofs.lemmas.Bool.{cases_eq, eq-eqb, ne_eqb}
 use Rattle.relation.specs.Algebra.{Set, except, single}
 use Rattle.relation.proofs.Sets.{single_event}
@@ -8,21 +9,13 @@ use Rattle.peeling.specs.Peeling.{count}
 abbrev pub without : Set → ℕ → Set
 without V m = except V (single m)
 
-and_no : (t : Bool) → (t && false) ≡ false
-and_no true = refl
-and_no false = refl
-
-and_yes : (t : Bool) → (t && true) ≡ t
-and_yes true = refl
-and_yes false = refl
-
 pub without_here : (V : Set) (m : ℕ) → m < 64 → without V m m ≡ false
 unfolding except
-without_here V m l = ap (λ (t : Bool). V m && not t) (single_event m m l ∙ eq-eqb m m refl) ∙ and_no (V m)
+without_here V m l = ap (λ (t : Bool). V m && not t) (single_event m m l ∙ eq-eqb m m refl) ∙ and-false (V m)
 
 pub without_other : (V : Set) (m v : ℕ) → (m ≡ v → ⊥) → without V m v ≡ V v
 unfolding except single
-without_other V m v ne = ap (λ (t : Bool). V v && not (ltb m 64 && t)) (ne_eqb m v ne) ∙ ap (λ (t : Bool). V v && not t) (and_no (ltb m 64)) ∙ and_yes (V v)
+without_other V m v ne = ap (λ (t : Bool). V v && not (ltb m 64 && t)) (ne_eqb m v ne) ∙ ap (λ (t : Bool). V v && not t) (and-false (ltb m 64)) ∙ and-true (V v)
 
 count_same : (V W : Set) (n : ℕ) → ((v : ℕ) → v < n → V v ≡ W v) → count V n ≡ count W n
 unfolding count

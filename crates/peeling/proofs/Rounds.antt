@@ -1,12 +1,12 @@
 -- Peeling: what is taken out lies on no cycle, and where nothing can be taken out there is one.
-use Rattle.std.proofs.Common.{◌≡◌, ℕ, zero, suc, ◌+◌, ◌<◌, ◌≤◌, Bool, true, false, not, List, [], ◌∷◌, sym, refl, ap, ◌∙◌, subst, ⊎_elim, le_refl, arith}
+use Rattle.std.proofs.Common.{◌≡◌, ℕ, zero, suc, ◌+◌, ◌<◌, ◌≤◌, Bool, true, false, List, [], ◌∷◌, sym, refl, ap, ◌∙◌, subst, ⊎_elim, le_refl, arith}
 use Rattle.std.proofs.lemmas.Bool.{cases_lt, lt-ltb, cases_eq, cases_Bool, false≢true, and_from, and_parts}
 use Rattle.relation.specs.Algebra.{Set, Rel, everything, both, some_below}
 use Rattle.relation.specs.Meaning.{members, holds}
 use Rattle.relation.specs.declared.Row.{Row}
 use Rattle.relation.specs.declared.Relation.{Relation}
 use Rattle.relation.proofs.Sets.{members_past}
-use Rattle.relation.proofs.Relations.{holds_starts, holds_ends}
+use Rattle.relation.proofs.Relations.{holds_starts}
 use Rattle.relation.proofs.Below.{some_from, from_some}
 use Rattle.cycles.specs.Cycles.{Path, Cycle}
 use Rattle.peeling.specs.Peeling.{Cyclic, count, Off, Leads, Peeled}
@@ -92,9 +92,6 @@ module _ (R : Rel) (before : Set) where
 pub members_below : (r : Row) (v : ℕ) → members r v ≡ true → v < 64
 members_below r v h = ⊎_elim (λ l. l) (λ l. absurd (false≢true (sym (members_past r v l) ∙ h))) (cases_lt v 64)
 
-pub ends_below : (r : Relation) (a b : ℕ) → holds r a b ≡ true → b < 64
-ends_below r a b h = ⊎_elim (λ l. l) (λ l. absurd (false≢true (sym (holds_ends r a b l) ∙ h))) (cases_lt b 64)
-
 starts : (R : Rel) (vs : List ℕ) (a b : ℕ) → Path R a vs b → (c : ℕ) × (R a c ≡ true)
 starts R [] a b h = (b, h)
 starts R (v ∷ vs) a b h = (v, h.0)
@@ -105,10 +102,6 @@ unfolding everything
 off_all r l e a h vs c =
     let s = starts (holds r) vs a a c in
     ⊎_elim (λ p. false≢true (sym h ∙ ap (λ (S : Set). S a) e ∙ lt-ltb a 64 p)) (λ p. false≢true (sym (holds_starts r a s.0 p) ∙ s.1)) (cases_lt a 64)
-
-pub not_not : (t : Bool) → not (not t) ≡ t
-not_not true = refl
-not_not false = refl
 
 -- where every event outside L lies on no cycle and there is a cycle, L has an event
 pub some_live : (R : Rel) (L : Set) → ((v : ℕ) → L v ≡ true → v < 64) → Off R L → (ws : List ℕ) → Cycle R ws → some_below 64 L ≡ true

@@ -5,9 +5,7 @@ ghost use Rattle.std.specs.Prelude.{Decides};
 ghost use Rattle.relation.specs.Meaning.{members, holds};
 ghost use Rattle.peeling.specs.Peeling.{Cyclic, Peeled};
 
-use relation::{Relation, Row};
-
-const EVENTS: usize = 64;
+use relation::{EVENTS, Relation, Row};
 
 // Takes out of `live`, from the highest event down, each event that has no successor in it. Tells whether there was one.
 fn peel(rel: &Relation, live: &mut Row) -> bool

@@ -1,6 +1,6 @@
 -- The same relations by what was prepared for a sheet and laid out under an order. Assumes nothing.
 use Rattle.std.specs.Prelude.{ℕ, List, Some, None, Option, slice_index_or}
-use Rattle.relation.specs.Algebra.{Rel, none, plus, ◌∪◌, ◌◁◌, ◌▷◌}
+use Rattle.relation.specs.Algebra.{Set, Rel, none, plus, ◌∪◌, ◌∩◌, ◌◁◌, ◌▷◌}
 use Rattle.relation.specs.Meaning.{members, holds}
 use Rattle.execution.specs.Readings.{co_by, fr_by}
 use Rattle.ptx.specs.declared.crossing.Crossing.{Crossing}
@@ -11,6 +11,10 @@ use Rattle.ptx.specs.Ptx.{cause_of}
 use Rattle.ptx.specs.Axioms.{axioms}
 
 module _ (c : Crossing) (base : Rel) where
+  -- generic events with themselves, and base pairs of one proxy and block between two sets
+  abbrev pub fenced_by : Set → Set → Rel
+  fenced_by first second = (members c.generic ◁ holds c.itself) ∪ (first ◁ (base ∩ holds c.together) ▷ second)
+
   abbrev pub departs_by : Rel
   departs_by = departs (members c.generic) (members c.other) (members c.fences) (holds c.together) (holds c.itself) base
 
@@ -50,4 +54,6 @@ abbrev pub yielded : Basis → Rel → ℕ → Rel
 yielded b o i = slice_index_or (listed_under b o) i none
 
 abbrev pub shown : Basis → Causality → ℕ → Rel
-shown b l i = slice_index_or (listed b (holds l.co) (holds l.co_plus) (holds l.fr) (holds l.comm) (holds l.cause)) i none
+shown b l i =
+    let c = l.coherence in
+    slice_index_or (listed b (holds c.co) (holds c.co_plus) (holds c.fr) (holds l.comm) (holds l.cause)) i none

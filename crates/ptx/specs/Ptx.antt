@@ -15,15 +15,18 @@ use Rattle.ptx.specs.Kept.{kept}
 
 -- ---- where the two differ
 
+-- the pairs; with proxies, those of one proxy
+abbrev pub narrowed : Ptx → List Thread → List Event → Rel → Rel
+narrowed Plain ts es r = r
+narrowed WithProxies ts es r = r ∩ tied ts es SameProxy
+
 -- strong pairs; with proxies, of one proxy
 abbrev pub strong : Ptx → List Thread → List Event → Rel
-strong Plain ts es = tied ts es Strong
-strong WithProxies ts es = tied ts es Strong ∩ tied ts es SameProxy
+strong f ts es = narrowed f ts es (tied ts es Strong)
 
 -- program order within one location; with proxies, of one proxy
 abbrev pub po_within_loc : Ptx → List Thread → List Event → Rel → Rel
-po_within_loc Plain ts es po = po ∩ tied ts es Location
-po_within_loc WithProxies ts es po = po ∩ tied ts es Location ∩ tied ts es SameProxy
+po_within_loc f ts es po = narrowed f ts es (po ∩ tied ts es Location)
 
 abbrev pub poloc : Ptx → Facts → Rel
 poloc f x = po_within_loc f x.threads x.events x.po

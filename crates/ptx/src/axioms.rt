@@ -1,11 +1,10 @@
 // The six axioms of PTX.
 ghost use Rattle.std.specs.Prelude.{◌≡◌};
-ghost use Rattle.relation.specs.Algebra.{◌∪◌, ◌∩◌, ◌∖◌, ◌⨾◌, ◌◁◌, ◌▷◌, plus};
-ghost use Rattle.relation.specs.Meaning.{members, holds};
-ghost use Rattle.execution.specs.Facts.{facts};
+ghost use Rattle.relation.specs.Algebra.{◌∪◌, ◌∩◌, ◌∖◌, ◌⨾◌};
+ghost use Rattle.relation.specs.Meaning.{holds};
 ghost use Rattle.sheet.specs.Sheets.{closed_book};
 ghost use Rattle.ptx.specs.Axioms.{ptx_meaning};
-ghost use Rattle.ptx.specs.Prepared.{yielded, shown, base_by, cause_by};
+ghost use Rattle.ptx.specs.Prepared.{yielded, shown, cause_by};
 ghost use Rattle.ptx.specs.Ptx.{fence_pairs};
 ghost use Rattle.ptx.specs.Laws.{ptx_lawful};
 
@@ -24,6 +23,7 @@ use relation::Relation;
 use sheet::closed::ClosedSheet;
 
 // Causality order under an order of writes and fences.
+#[tactic(auto, unfolding(crate::specs::Ptx::cause_of))]
 fn cause(b: &Basis, order: &Relation) -> Relation
     ensures { holds result ≡ cause_by b.now (holds order.now) }
 {
@@ -32,6 +32,8 @@ fn cause(b: &Basis, order: &Relation) -> Relation
     let counts = counted(&b.crossing, &base);
     counts.union(&b.seen.then(&counts))
 }
+
+// What is prepared and what is laid out stand apart, as the interface hands them over.
 
 // Axiom 1: strong communication, and program order within one location.
 fn per_location(b: &Basis, l: &Causality) -> Relation
@@ -42,19 +44,23 @@ fn per_location(b: &Basis, l: &Causality) -> Relation
 
 // Axiom 2: a strong write between the two events of an atomic step.
 fn torn(b: &Basis, l: &Causality) -> Relation
-    ensures { holds result ≡ ((holds b.now.strong ∩ holds l.now.fr) ⨾ (holds b.now.strong ∩ holds l.now.co_plus)) ∩ holds b.now.atomic }
+    ensures { let s = holds b.now.strong in
+        let c = l.now.coherence in
+        holds result ≡ ((s ∩ holds c.fr) ⨾ (s ∩ holds c.co_plus)) ∩ holds b.now.atomic }
 {
     b.strong
-        .intersection(&l.fr)
-        .then(&b.strong.intersection(&l.co_plus))
+        .intersection(&l.coherence.fr)
+        .then(&b.strong.intersection(&l.coherence.co_plus))
         .intersection(&b.atomic)
 }
 
 // Axiom 3: causality between different writes to one address that coherence order does not have.
 fn unordered(b: &Basis, l: &Causality) -> Relation
-    ensures { holds result ≡ (holds l.now.cause ∩ holds b.now.rivals) ∖ holds l.now.co_plus }
+    ensures { holds result ≡ (holds l.now.cause ∩ holds b.now.rivals) ∖ holds l.now.coherence.co_plus }
 {
-    l.cause.intersection(&b.rivals).difference(&l.co_plus)
+    l.cause
+        .intersection(&b.rivals)
+        .difference(&l.coherence.co_plus)
 }
 
 // Axiom 4: an event that causes itself, or that communicates to its cause.
@@ -123,14 +129,11 @@ impl MemoryModel for Ptx {
     }
 
     fn lay(&self, prepared: &Basis, order: &Relation) -> Causality {
-        let co = prepared.reading.co(order);
-        let co_plus = co.plus();
-        let fr = prepared.reading.fr(&co_plus);
+        let coherence = prepared.reading.under(order);
+        let comm = prepared.rf.union(&coherence.fr).union(&coherence.co_plus);
         Causality {
-            co,
-            co_plus,
-            fr,
-            comm: prepared.rf.union(&fr).union(&co_plus),
+            coherence,
+            comm,
             cause: cause(prepared, order),
         }
     }
@@ -142,7 +145,7 @@ impl MemoryModel for Ptx {
             2 => torn(prepared, laid),
             3 => unordered(prepared, laid),
             4 => causality(laid),
-            5 => laid.co,
+            5 => laid.coherence.co,
             _ => Relation::empty(),
         }
     }

@@ -1,6 +1,6 @@
 // What PTX prepares for a sheet, and lays out under an order.
 use crate::crossing::Crossing;
-use execution::reading::Reading;
+use execution::reading::{Coherence, Reading};
 use relation::{Relation, Row};
 
 #[derive(Clone, Copy)]
@@ -25,9 +25,7 @@ pub struct Basis {
 
 #[derive(Clone, Copy)]
 pub struct Causality {
-    pub(crate) co: Relation,
-    pub(crate) co_plus: Relation,
-    pub(crate) fr: Relation,
+    pub(crate) coherence: Coherence,
     pub(crate) comm: Relation,
     pub(crate) cause: Relation,
 }

@@ -1,9 +1,8 @@
 // Which pairs of base causality order count where proxies matter.
 ghost use Rattle.std.specs.Prelude.{◌≡◌};
-ghost use Rattle.relation.specs.Algebra.{Rel};
-ghost use Rattle.relation.specs.Meaning.{holds};
+ghost use Rattle.relation.specs.Meaning.{members, holds};
 ghost use Rattle.sheet.specs.Sheets.{closed_book};
-ghost use Rattle.ptx.specs.Prepared.{departs_by, lands_by, crosses_by, kept_by, counted_by};
+ghost use Rattle.ptx.specs.Prepared.{fenced_by, departs_by, lands_by, crosses_by, kept_by, counted_by};
 ghost use Rattle.ptx.specs.Ptx.{counted};
 
 use crate::flavour::Ptx;
@@ -44,30 +43,33 @@ impl Crossing {
         }
     }
 
+    // An event with itself if it is generic, and base pairs of one proxy and block between the two sets.
+    fn fenced(&self, base: &Relation, first: Row, second: Row) -> Relation
+        ensures { holds result ≡ fenced_by self.now (holds base.now) (members first) (members second) }
+    {
+        let between = base.intersection(&self.together).from(first).to(second);
+        self.itself.from(self.generic).union(&between)
+    }
+
     // From an event to where it starts: itself if it is generic, else a proxy fence of its proxy and block after it.
+    #[tactic(auto, unfolding(crate::specs::Kept::departs))]
     fn departs(&self, base: &Relation) -> Relation
         ensures { holds result ≡ departs_by self.now (holds base.now) }
     {
-        let fenced = base
-            .intersection(&self.together)
-            .from(self.other)
-            .to(self.fences);
-        self.itself.from(self.generic).union(&fenced)
+        self.fenced(base, self.other, self.fences)
     }
 
     // From where an event is landed on to the event: itself if it is generic, else a proxy fence of its proxy and block
     // before it.
+    #[tactic(auto, unfolding(crate::specs::Kept::lands))]
     fn lands(&self, base: &Relation) -> Relation
         ensures { holds result ≡ lands_by self.now (holds base.now) }
     {
-        let fenced = base
-            .intersection(&self.together)
-            .from(self.fences)
-            .to(self.other);
-        self.itself.from(self.generic).union(&fenced)
+        self.fenced(base, self.fences, self.other)
     }
 
     // A start and a landing that are one, or in this order.
+    #[tactic(auto, unfolding(crate::specs::Kept::crosses))]
     fn crosses(&self, base: &Relation) -> Relation
         ensures { holds result ≡ crosses_by self.now (holds base.now) }
     {
@@ -77,6 +79,7 @@ impl Crossing {
     }
 
     // The base pairs that are kept.
+    #[tactic(auto, unfolding(crate::specs::Kept::kept_of))]
     fn kept(&self, base: &Relation) -> Relation
         ensures { holds result ≡ kept_by self.now (holds base.now) }
     {
@@ -90,8 +93,5 @@ impl Crossing {
 pub fn counted(crossing: &Option<Crossing>, base: &Relation) -> Relation
     ensures { holds result ≡ counted_by crossing.now (holds base.now) }
 {
-    match crossing {
-        None => *base,
-        Some(c) => c.kept(base),
-    }
+    crossing.as_ref().map_or(*base, |c| c.kept(base))
 }

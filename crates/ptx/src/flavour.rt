@@ -3,7 +3,7 @@ ghost use Rattle.std.specs.Prelude.{◌≡◌};
 ghost use Rattle.relation.specs.Meaning.{holds};
 ghost use Rattle.sheet.specs.Sheets.{closed_book};
 ghost use Rattle.execution.specs.Facts.{facts};
-ghost use Rattle.ptx.specs.Ptx.{strong, poloc};
+ghost use Rattle.ptx.specs.Ptx.{narrowed, strong, poloc};
 
 use execution::execution::Execution;
 use execution::facts::{is_tied, tied};
@@ -19,18 +19,24 @@ pub enum Ptx {
 }
 
 impl Ptx {
+    // The pairs; with proxies, those of one proxy.
+    fn narrowed(self, sheet: &ClosedSheet, pairs: Relation) -> Relation
+        ensures { holds result ≡ narrowed self (closed_book sheet.now).threads (closed_book sheet.now).events (holds pairs) }
+    {
+        match self {
+            Ptx::Plain => pairs,
+            Ptx::WithProxies => pairs.intersection(&tied(sheet, Tie::SameProxy)),
+        }
+    }
+
     // Pairs of events where the scope of each covers the thread of the other; with proxies, of one proxy.
     pub fn strong(self, sheet: &ClosedSheet) -> Relation
         ensures { holds result ≡ strong self (closed_book sheet.now).threads (closed_book sheet.now).events }
     {
-        let all = tied(sheet, Tie::Strong);
-        match self {
-            Ptx::Plain => all,
-            Ptx::WithProxies => all.intersection(&tied(sheet, Tie::SameProxy)),
-        }
+        self.narrowed(sheet, tied(sheet, Tie::Strong))
     }
 
-    // Whether two events are strong.
+    // Whether two events are strong; of one pair, no relation is laid out.
     pub fn is_strong(self, sheet: &ClosedSheet, a: usize, b: usize) -> bool
         ensures { result ≡ strong self (closed_book sheet.now).threads (closed_book sheet.now).events a b }
     {
@@ -45,10 +51,7 @@ impl Ptx {
     pub fn poloc(self, x: &Execution) -> Relation
         ensures { holds result ≡ poloc self (facts x.now) }
     {
-        let all = x.po().intersection(&tied(x.sheet(), Tie::Location));
-        match self {
-            Ptx::Plain => all,
-            Ptx::WithProxies => all.intersection(&tied(x.sheet(), Tie::SameProxy)),
-        }
+        let within = x.po().intersection(&tied(x.sheet(), Tie::Location));
+        self.narrowed(x.sheet(), within)
     }
 }

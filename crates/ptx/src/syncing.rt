@@ -18,7 +18,8 @@ pub fn obs(x: &Execution, strong: &Relation) -> Relation
     strong.intersection(&x.rf().union(x.atomic()))
 }
 
-// From a release to where it starts.
+// From a release to where it starts. `ends` mirrors it: one text for both would take each set and side as a parameter.
+#[tactic(auto, unfolding(crate::specs::Ptx::starts))]
 pub fn starts(x: &Execution, poloc: &Relation) -> Relation
     ensures { holds result ≡ starts (facts x.now).threads (facts x.now).events (facts x.now).po (holds poloc.now) }
 {
@@ -32,6 +33,7 @@ pub fn starts(x: &Execution, poloc: &Relation) -> Relation
 }
 
 // From what ends at an acquire to the acquire.
+#[tactic(auto, unfolding(crate::specs::Ptx::ends))]
 pub fn ends(x: &Execution, poloc: &Relation) -> Relation
     ensures { holds result ≡ ends (facts x.now).threads (facts x.now).events (facts x.now).po (holds poloc.now) }
 {
@@ -45,6 +47,7 @@ pub fn ends(x: &Execution, poloc: &Relation) -> Relation
 }
 
 // A strong pair of a start and an end, with observation from the one to the other.
+#[tactic(auto, unfolding(crate::specs::Ptx::sync_of))]
 pub fn sync(strong: &Relation, starts: &Relation, seen: &Relation, ends: &Relation) -> Relation
     ensures { holds result ≡ sync_of (holds strong.now) (holds starts.now) (holds seen.now) (holds ends.now) }
 {

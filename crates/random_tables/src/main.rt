@@ -2,7 +2,7 @@
 // tables, finds the same in another way, and writes the file `stdout` that this program is held to.
 #![tactic(auto)]
 
-use closure::{Count, Misfit, distances, reach};
+use closure::{Misfit, distances, reach};
 use cycles::shortest_cycle;
 use relation::Relation;
 use std::alloc::{AllocError, Global};
@@ -27,38 +27,19 @@ fn yes_no(heap: Global, r: &Relation, n: usize) -> Result<Vec<bool>, AllocError>
     Ok(table)
 }
 
-fn single_steps(heap: Global, table: &[bool]) -> Result<Vec<Count>, AllocError> {
-    let mut steps = Vec::new(heap);
-    for step in table {
-        steps.push(if *step { Count::Steps(1) } else { Count::Never })?;
-    }
-    Ok(steps)
+fn single_steps(heap: Global, table: &[bool]) -> Result<Vec<Option<u8>>, AllocError> {
+    table.iter().map(|step| step.then_some(1)).collect(heap)
 }
 
-fn pairs_of(table: &[bool]) -> u32 {
-    let mut pairs = 0u32;
-    for step in table {
-        if *step {
-            pairs = pairs.wrapping_add(1);
-        }
-    }
-    pairs
+fn pairs_of(table: &[bool]) -> usize {
+    table.iter().filter(|step| **step).count()
 }
 
-// How many steps, and 0 for no way.
-fn amount(count: Count) -> u8 {
-    match count {
-        Count::Never => 0,
-        Count::Steps(steps) => steps,
-    }
-}
-
-fn sum_of(counts: &[Count]) -> u32 {
-    let mut sum = 0u32;
-    for count in counts {
-        sum = sum.wrapping_add(u32::from(amount(*count)));
-    }
-    sum
+fn sum_of(counts: &[Option<u8>]) -> u32 {
+    counts
+        .iter()
+        .flatten()
+        .fold(0, |sum: u32, steps| sum.wrapping_add(u32::from(*steps)))
 }
 
 // FNV-1a over one more byte.
@@ -66,16 +47,14 @@ fn mixed(check: u32, byte: u8) -> u32 {
     (check ^ u32::from(byte)).wrapping_mul(16777619)
 }
 
-// FNV-1a over the two closed tables, entry by entry.
-fn checksum(table: &[bool], counts: &[Count]) -> u32 {
-    let mut check = 2166136261u32;
-    for step in table {
-        check = mixed(check, u8::from(*step));
-    }
-    for count in counts {
-        check = mixed(check, amount(*count));
-    }
-    check
+// FNV-1a over the two closed tables, entry by entry; no way counts as 0 steps.
+fn checksum(table: &[bool], counts: &[Option<u8>]) -> u32 {
+    let steps = counts.iter().map(|count| count.unwrap_or(0));
+    table
+        .iter()
+        .map(|step| u8::from(*step))
+        .chain(steps)
+        .fold(2166136261, mixed)
 }
 
 fn print_cycle(rt: &HostRuntime, r: &Relation) -> io::Result<()> {
@@ -99,18 +78,13 @@ fn report(rt: &HostRuntime, shape: Shape, n: usize, r: &Relation) -> io::Result<
     let reached = pairs_of(table.as_slice());
     let sum = sum_of(counts.as_slice());
     let check = checksum(table.as_slice(), counts.as_slice());
-    let name = shape.name();
-    print!(rt; "n={n} {name} pairs={pairs} reach={reached} sum={sum} check={check:08x}")?;
+    print!(rt; "n={n} {shape} pairs={pairs} reach={reached} sum={sum} check={check:08x}")?;
     print_cycle(rt, r)
 }
 
 // Every third entry is a step.
 fn pattern(heap: Global, entries: usize) -> Result<Vec<bool>, AllocError> {
-    let mut table = Vec::new(heap);
-    for p in 0..entries {
-        table.push(p % 3 == 0)?;
-    }
-    Ok(table)
+    (0..entries).map(|p| p % 3 == 0).collect(heap)
 }
 
 fn print_answer(rt: &HostRuntime, answer: Result<(), Misfit>, unchanged: bool) -> io::Result<()> {

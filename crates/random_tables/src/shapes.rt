@@ -1,7 +1,9 @@
 // The shapes of tables.
 use crate::draws::Draws;
 use relation::Relation;
+use std::{array, fmt};
 
+// An enum in place of a table of functions, since a shape also has its name. The draws go on from table to table, so they are lent.
 #[derive(Clone, Copy)]
 pub(crate) enum Shape {
     VerySparse,
@@ -24,18 +26,6 @@ impl Shape {
         Shape::NearlyAcyclic,
     ];
 
-    pub(crate) fn name(self) -> &'static str {
-        match self {
-            Shape::VerySparse => "very sparse",
-            Shape::Sparse => "sparse",
-            Shape::Middle => "middle",
-            Shape::Dense => "dense",
-            Shape::Ring => "ring",
-            Shape::Chords => "chords",
-            Shape::NearlyAcyclic => "nearly acyclic",
-        }
-    }
-
     // A relation of this shape on the events below n.
     pub(crate) fn draw(self, draws: &mut Draws, n: usize) -> Relation {
         match self {
@@ -43,10 +33,24 @@ impl Shape {
             Shape::Sparse => scattered(draws, n, 3, n.wrapping_mul(2)),
             Shape::Middle => scattered(draws, n, 1, 8),
             Shape::Dense => dense(draws, n),
-            Shape::Ring => ring(&shuffled(draws, n), n),
+            Shape::Ring => ring(&shuffled(draws, n)[..n.min(64)]),
             Shape::Chords => chords(draws, n),
             Shape::NearlyAcyclic => nearly_acyclic(draws, n),
         }
+    }
+}
+
+impl fmt::Display for Shape {
+    fn fmt<W: fmt::Write>(&self, f: &mut fmt::Formatter<W>) -> fmt::Result {
+        f.write_str(match self {
+            Shape::VerySparse => "very sparse",
+            Shape::Sparse => "sparse",
+            Shape::Middle => "middle",
+            Shape::Dense => "dense",
+            Shape::Ring => "ring",
+            Shape::Chords => "chords",
+            Shape::NearlyAcyclic => "nearly acyclic",
+        })
     }
 }
 
@@ -56,60 +60,55 @@ fn relate(r: &mut Relation, i: usize, j: usize) {
     }
 }
 
-// Each pair of different events with a chance of `hits` in `out_of`.
-fn scattered(draws: &mut Draws, n: usize, hits: usize, out_of: usize) -> Relation {
+// The pairs of events below n that are drawn, each pair in its turn.
+fn drawn<F: FnMut(usize, usize) -> bool>(n: usize, mut draw: F) -> Relation
+    requires { (f : _) (i : _) (j : _) → F.pre f i j }
+{
     let mut r = Relation::empty();
     for i in 0..n {
         for j in 0..n {
-            if draws.below(out_of) < hits && i != j {
+            if draw(i, j) {
                 relate(&mut r, i, j);
             }
         }
     }
     r
+}
+
+// Each pair of different events with a chance of `hits` in `out_of`.
+fn scattered(draws: &mut Draws, n: usize, hits: usize, out_of: usize) -> Relation {
+    drawn(n, |i, j| draws.below(out_of) < hits && i != j)
 }
 
 // Each pair with a chance of 5 in 8, also an event with itself.
 fn dense(draws: &mut Draws, n: usize) -> Relation {
-    let mut r = Relation::empty();
-    for i in 0..n {
-        for j in 0..n {
-            if draws.below(8) < 5 {
-                relate(&mut r, i, j);
-            }
-        }
-    }
-    r
+    drawn(n, |_, _| draws.below(8) < 5)
 }
 
 // The events below n in a random order, at the front.
 fn shuffled(draws: &mut Draws, n: usize) -> [usize; 64] {
-    let mut order = [0usize; 64];
-    for i in 0..64 {
-        order[i] = i;
-    }
+    let mut order = array::from_fn(|i| i);
     for i in 1..n.min(64) {
-        let j = draws.below(i + 1) % 64;
-        let event = order[i];
-        order[i] = order[j];
-        order[j] = event;
+        order.swap(i, draws.below(i + 1) % 64);
     }
     order
 }
 
-// Relates each of the first n events of `order` to the one that stands `ahead` places after it, round about.
-fn relate_ahead(r: &mut Relation, order: &[usize; 64], n: usize, i: usize, ahead: usize) {
-    if n > 0 {
-        let j = i.wrapping_add(ahead) % n;
-        relate(r, order[i % 64], order[j % 64]);
+// Relates the event at place i of `order` to the one that stands `ahead` places after it, round about.
+fn relate_ahead(r: &mut Relation, order: &[usize], i: usize, ahead: usize) {
+    if !order.is_empty() {
+        let j = i.wrapping_add(ahead) % order.len();
+        if let (Some(from), Some(to)) = (order.get(i), order.get(j)) {
+            relate(r, *from, *to);
+        }
     }
 }
 
-// One cycle through the first n events of `order`.
-fn ring(order: &[usize; 64], n: usize) -> Relation {
+// One cycle through the events of `order`.
+fn ring(order: &[usize]) -> Relation {
     let mut r = Relation::empty();
-    for i in 0..n {
-        relate_ahead(&mut r, order, n, i, 1);
+    for i in 0..order.len() {
+        relate_ahead(&mut r, order, i, 1);
     }
     r
 }
@@ -117,10 +116,11 @@ fn ring(order: &[usize; 64], n: usize) -> Relation {
 // A ring, and some steps that leave out one of its events.
 fn chords(draws: &mut Draws, n: usize) -> Relation {
     let order = shuffled(draws, n);
-    let mut r = ring(&order, n);
-    for i in 0..n {
+    let order = &order[..n.min(64)];
+    let mut r = ring(order);
+    for i in 0..order.len() {
         if draws.below(8) < 1 {
-            relate_ahead(&mut r, &order, n, i, 2);
+            relate_ahead(&mut r, order, i, 2);
         }
     }
     r

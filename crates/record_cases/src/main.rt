@@ -2,6 +2,7 @@
 // compared with what an independent splitter of records says of the same files.
 #![tactic(auto)]
 
+use cases::Cases;
 use records::survey::survey;
 use std::io;
 use std::io::Read;
@@ -15,17 +16,12 @@ fn answer(rt: &HostRuntime, file: &[u8]) -> io::Result<()> {
     }
 }
 
+// The programs of stored cases share the row of cases; a shared `main` would take `answer` as a closure, for five lines.
 fn main(rt: HostRuntime) -> io::Result<()> {
     let mut input = Vec::new(rt.alloc());
     rt.stdin().take(LIMIT).read_to_end(&mut input)?;
-    let mut rest = input.as_slice();
-    while let [low, high, after @ ..] = rest {
-        let len = u16::from_le_bytes([*low, *high]) as usize;
-        if after.len() < len {
-            break;
-        }
-        answer(&rt, &after[0..len])?;
-        rest = &after[len..];
+    for file in Cases::new(input.as_slice()) {
+        answer(&rt, file)?;
     }
     Ok(())
 }

@@ -1,4 +1,3 @@
-pub mod Bytes
 pub mod Marks
 pub mod Unique
 pub mod Steps

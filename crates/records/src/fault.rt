@@ -20,6 +20,8 @@ pub enum Cause {
     BadQuestion,
 }
 
+// Each layer counts from 1, so the numbers are no discriminants of the enum. `casefile` has a `Cause` and a `Fault` of its own, which
+// hold the sheet's refusals too; the reason stands there.
 impl Cause {
     // The layer that found the fault: 1 is the input, 2 the records.
     pub fn layer(self) -> u8

@@ -2,48 +2,48 @@
 ghost use Rattle.std.specs.Prelude.{◌≡◌};
 ghost use Rattle.records.specs.Questions.{code, Named, Asking, Asks};
 
+use crate::fault::Cause;
+
 // The models that a question may name, plain or under the view layer.
 #[derive(Clone, Copy, PartialEq, Eq, Debug)]
 pub enum Model {
-    Sc,
-    Ptx,
-    PtxProxies,
-    ViewedSc,
-    ViewedPtx,
-    ViewedPtxProxies,
+    Sc = 0,
+    Ptx = 2,
+    PtxProxies = 3,
+    ViewedSc = 16,
+    ViewedPtx = 18,
+    ViewedPtxProxies = 19,
 }
 
-impl Model {
-    pub fn code(self) -> u8
-        ensures { result ≡ code self }
-    {
-        match self {
-            Model::Sc => 0,
-            Model::Ptx => 2,
-            Model::PtxProxies => 3,
-            Model::ViewedSc => 16,
-            Model::ViewedPtx => 18,
-            Model::ViewedPtxProxies => 19,
-        }
-    }
+impl From<Model> for u8 {
+    ghost from_gives = { λ model number. number ≡ code model };
 
-    // The model that has this code.
-    pub fn of(number: u8) -> Option<Model>
-        ensures { Named number result }
-    {
+    fn from(model: Model) -> u8 {
+        model as u8
+    }
+}
+
+// The model that has this code. A match, since a table that is searched could lack a model without anyone seeing it.
+impl TryFrom<u8> for Model {
+    type Error = Cause;
+
+    ghost try_from_gives = { Named };
+
+    fn try_from(number: u8) -> Result<Model, Cause> {
         match number {
-            0 => Some(Model::Sc),
-            2 => Some(Model::Ptx),
-            3 => Some(Model::PtxProxies),
-            16 => Some(Model::ViewedSc),
-            18 => Some(Model::ViewedPtx),
-            19 => Some(Model::ViewedPtxProxies),
-            _ => None,
+            0 => Ok(Model::Sc),
+            2 => Ok(Model::Ptx),
+            3 => Ok(Model::PtxProxies),
+            16 => Ok(Model::ViewedSc),
+            18 => Ok(Model::ViewedPtx),
+            19 => Ok(Model::ViewedPtxProxies),
+            _ => Err(Cause::BadQuestion),
         }
     }
 }
 
-// Whether some completion is consistent, or what is wrong with one completion.
+// Whether some completion is consistent, or what is wrong with one completion. Two questions with names: an `Option` of a
+// completion would hide which is asked.
 #[derive(Clone, Copy, PartialEq, Eq, Debug)]
 pub enum Ask {
     Settle,
@@ -57,30 +57,29 @@ pub struct Question {
 }
 
 // What the question byte and the completion ask.
-fn ask_of(question: u8, completion: u16) -> Option<Ask>
+fn ask_of(question: u8, completion: u16) -> Result<Ask, Cause>
     ensures { Asking question completion result }
 {
     match (question, completion) {
-        (0, 0) => Some(Ask::Settle),
-        (1, _) => Some(Ask::Judge(completion)),
-        _ => None,
+        (0, 0) => Ok(Ask::Settle),
+        (1, _) => Ok(Ask::Judge(completion)),
+        _ => Err(Cause::BadQuestion),
     }
 }
 
-impl Question {
-    // The question that these bytes are the body of.
-    pub fn of(body: &[u8]) -> Option<Question>
-        ensures { Asks body.now result }
-    {
+// The question that these bytes are the body of.
+impl TryFrom<&[u8]> for Question {
+    type Error = Cause;
+
+    ghost try_from_gives = { λ body question. Asks body.now question };
+
+    fn try_from(body: &[u8]) -> Result<Question, Cause> {
         let [model, question, low, high] = body else {
-            return None;
+            return Err(Cause::BadQuestion);
         };
-        let Some(model) = Model::of(*model) else {
-            return None;
-        };
-        let Some(ask) = ask_of(*question, u16::from_le_bytes([*low, *high])) else {
-            return None;
-        };
-        Some(Question { model, ask })
+        Ok(Question {
+            model: Model::try_from(*model)?,
+            ask: ask_of(*question, u16::from_le_bytes([*low, *high]))?,
+        })
     }
 }

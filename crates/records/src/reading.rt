@@ -1,8 +1,9 @@
 // The records of a file, one after another.
-ghost use Rattle.std.specs.Prelude.{◌≡◌, ℕ, ◌+◌, ◌<◌, ◌≤◌, length, Decides};
+ghost use Rattle.std.specs.Prelude.{◌≡◌, ℕ, MatchResult};
+ghost use Rattle.records.specs.declared.fault.Cause.TheVariants.{BadQuestion};
 ghost use Rattle.records.specs.Format.{Here, Due, Fields};
 ghost use Rattle.records.specs.Grammar.{Outcome, Next, seen};
-ghost use Rattle.records.specs.Readers.{rest, Fresh, Placed, Moved};
+ghost use Rattle.records.specs.Readers.{rest, Fresh, Ahead, Placed, Moved};
 
 use crate::fault::{Cause, Fault};
 use crate::mark::{Mark, Phase, Record, Sign};
@@ -38,26 +39,24 @@ fn due(phase: Phase, sign: Sign) -> Result<Option<(Mark, Phase)>, Cause>
         (Phase::Ended, _) => Err(Cause::Trailing),
         (_, Sign::Nothing | Sign::Half) => Err(Cause::Cut),
         (_, Sign::Unknown) => Err(Cause::UnknownMark),
-        (Phase::Rows, Sign::Known(Mark::Thread)) => Ok(Some((Mark::Thread, Phase::Rows))),
-        (Phase::Rows, Sign::Known(Mark::Event)) => Ok(Some((Mark::Event, Phase::Rows))),
+        (Phase::Rows, Sign::Known(mark @ (Mark::Thread | Mark::Event))) => Ok(Some((
+            mark,
+            Phase::Rows,
+        ))),
         (Phase::Edges, Sign::Known(Mark::Thread | Mark::Event)) => Err(Cause::LateRow),
-        (_, Sign::Known(Mark::ReadFrom)) => Ok(Some((Mark::ReadFrom, Phase::Edges))),
-        (_, Sign::Known(Mark::Order)) => Ok(Some((Mark::Order, Phase::Edges))),
-        (_, Sign::Known(Mark::Atomic)) => Ok(Some((Mark::Atomic, Phase::Edges))),
-        (_, Sign::Known(Mark::Depend)) => Ok(Some((Mark::Depend, Phase::Edges))),
-        (_, Sign::Known(Mark::Question)) => Ok(Some((Mark::Question, Phase::Edges))),
         (_, Sign::Known(Mark::End)) => Ok(Some((Mark::End, Phase::Ended))),
+        (_, Sign::Known(mark)) => Ok(Some((mark, Phase::Edges))),
     }
 }
 
-// Whether a body has the fields that its mark asks for.
-fn has_fields(mark: Mark, body: &[u8]) -> bool
-    ensures { Decides result (Fields mark body.now) }
+// Refuses a body without the fields that its mark asks for.
+fn check_fields(mark: Mark, body: &[u8]) -> Result<(), Cause>
+    ensures { MatchResult result (λ _. Fields mark body.now) (λ c. (c ≡ BadQuestion) × (Fields mark body.now → ⊥)) }
 {
-    match mark {
-        Mark::Question => Question::of(body).is_some(),
-        _ => true,
+    if mark == Mark::Question {
+        Question::try_from(body)?;
     }
+    Ok(())
 }
 
 impl<'a> Reader<'a> {
@@ -71,7 +70,23 @@ impl<'a> Reader<'a> {
         }
     }
 
+    // The record at the reader's place, and the phase behind it.
+    fn ahead(&self) -> Result<Option<(Record<'a>, Phase)>, Cause>
+        ensures { Ahead self.now result }
+    {
+        let file = self.file;
+        let place = self.at;
+        let rest = &file[place..];
+        let Some((mark, phase)) = due(self.phase, sign_of(rest))? else {
+            return Ok(None);
+        };
+        let body = rest.get(2..2 + mark.size()).ok_or(Cause::Cut)?;
+        check_fields(mark, body)?;
+        Ok(Some((Record { mark, body, place }, phase)))
+    }
+
     // The next record; `None` behind the ending one, at the end of the file. A fault leaves the reader where it is.
+    // No `Iterator`: a fault is told again by each call, so the items have no end, and a `for` over them would have none.
     pub fn next(&mut self) -> Result<Option<Record<'a>>, Fault>
         ensures same { self.new.file.now ≡ self.old.file.now }
         ensures answer { Next self.old.phase (rest self.old) (seen result) }
@@ -79,32 +94,13 @@ impl<'a> Reader<'a> {
         ensures place { Placed self.old.at result }
         ensures after { Moved self.old result self.new }
     {
-        let file = self.file;
         let place = self.at;
-        let rest = &file[place..];
-        let step = match due(self.phase, sign_of(rest)) {
-            Ok(step) => step,
-            Err(cause) => return Err(Fault { cause, place }),
-        };
-        let Some((mark, phase)) = step else {
+        let ahead = self.ahead().map_err(|cause| Fault { cause, place })?;
+        let Some((record, phase)) = ahead else {
             return Ok(None);
         };
-        let size = mark.size();
-        if rest.len() < 2 + size {
-            return Err(Fault {
-                cause: Cause::Cut,
-                place,
-            });
-        }
-        let body = &file[place + 2..place + 2 + size];
-        if !has_fields(mark, body) {
-            return Err(Fault {
-                cause: Cause::BadQuestion,
-                place,
-            });
-        }
-        self.at = place + 2 + size;
+        self.at = place + 2 + record.body.len();
         self.phase = phase;
-        Ok(Some(Record { mark, body, place }))
+        Ok(Some(record))
     }
 }

@@ -54,11 +54,13 @@ impl fmt::Display for Tally {
     ghost output = { λ t. Some (tally_text t) };
 
     fn fmt<W: fmt::Write>(&self, f: &mut fmt::Formatter<W>) -> fmt::Result {
-        let records = self.records;
-        let threads = self.threads;
-        let events = self.events;
-        let edges = self.edges;
-        let questions = self.questions;
+        let Tally {
+            records,
+            threads,
+            events,
+            edges,
+            questions,
+        } = *self;
         write!(
             f,
             "records {records} threads {threads} events {events} edges {edges} questions {questions}"
@@ -73,8 +75,8 @@ pub fn survey(file: &[u8]) -> Result<Tally, Fault>
 {
     let mut reader = Reader::new(file);
     let mut tally = Tally::none();
-    while let Some(item) = reader.next()? {
-        tally.note(item.mark);
+    while let Some(record) = reader.next()? {
+        tally.note(record.mark);
     }
     Ok(tally)
 }

@@ -1,9 +1,10 @@
 -- What `some_below` and `least_below` say.
-use Rattle.std.proofs.Common.{◌≡◌, ℕ, zero, suc, ◌+◌, ◌<◌, Bool, true, false, cond, not, ◌&&◌, ◌||◌, ltb, Some, None, Option, sym, refl, ap, ◌∙◌, ap₂, ⊎_elim, add-one, arith}
+use Rattle.std.proofs.Common.{◌≡◌, ℕ, zero, suc, ◌+◌, ◌<◌, ◌≤◌, Bool, true, false, cond, ◌&&◌, ◌||◌, ltb, Some, None, Option, MatchOption, sym, refl, ap, ◌∙◌, ap₂, ⊎_elim, add-one, arith}
 use mathlib.Core.Path.{fun_ext}
 use Rattle.std.proofs.lemmas.Bool.Decides.{nat_tests}
+use Rattle.std.proofs.Math.Bool.{and-true, and-false, or-false, or_comm}
 use Rattle.std.proofs.lemmas.Bool.{or_cases, or_left, or_right, or_from, cases_eq, lt-ltb, le-ltb, eq-eqb, ne_eqb}
-use Rattle.relation.specs.Algebra.{Set, Rel, some_below, least_below, or_else, nothing, single, either, only_if, upto, image_below, range_below, beside, lowest_pair_below}
+use Rattle.relation.specs.Algebra.{Set, Rel, some_below, least_below, or_else, nothing, single, either, only_if, upto, range_below, beside, lowest_pair_below}
 
 -- some number below n passes
 pub some_from : (n : ℕ) (p : Set) (k : ℕ) → k < n → p k ≡ true → some_below n p ≡ true
@@ -55,6 +56,14 @@ least_is (suc n) p k l h below =
     (λ ne. ap (λ (o : Option ℕ). or_else o (cond (p n) (Some n) None)) (least_is n p k (omega arith) h below))
     (cases_eq k n)
 
+-- what a search from 0 up to n found, if it found something
+abbrev pub FirstIn : ℕ → Set → Option ℕ → Type 0
+FirstIn n p o = MatchOption o ((k : ℕ) → 0 ≤ k → k < n → p k ≡ false) (λ i. (0 ≤ i) × (i < n) × (p i ≡ true) × ((k : ℕ) → 0 ≤ k → k < i → p k ≡ false))
+
+pub least_first : (n : ℕ) (p : Set) (o : Option ℕ) → FirstIn n p o → o ≡ least_below n p
+least_first n p None h = sym (least_none n p (λ k l. h k (omega arith) l))
+least_first n p (Some i) h = sym (least_is n p i h.1 h.2 (λ k l. h.3 k (omega arith) l))
+
 -- ---- one more member
 
 pub upto_none : (a : Set) → nothing ≡ upto 0 a
@@ -65,39 +74,9 @@ pub upto_more : (n : ℕ) (a : Set) → n < 64 → upto (n + 1) a ≡ either (up
 unfolding upto either only_if single
 upto_more n a h =
     fun_ext (λ j. ⊎_elim
-    (λ (e : j ≡ n). simp (e, lt-ltb n (n + 1) (omega arith), lt-ltb n 64 h, le-ltb n n (omega arith), eq-eqb n n refl) (and_true (a n)))
-    (λ ne. simp (ne_eqb n j (λ e. ne (sym e)), lt-ltb n 64 h, and_false (a n), or_false (ltb j n && a j)) (ap (λ t. t && a j) (grind (arith, nat_tests))))
+    (λ (e : j ≡ n). simp (e, lt-ltb n (n + 1) (omega arith), lt-ltb n 64 h, le-ltb n n (omega arith), eq-eqb n n refl) (sym (and-true (a n))))
+    (λ ne. simp (ne_eqb n j (λ e. ne (sym e)), lt-ltb n 64 h, and-false (a n), or-false (ltb j n && a j)) (ap (λ t. t && a j) (grind (arith, nat_tests))))
     (cases_eq j n))
-  where
-    and_true : (t : Bool) → t ≡ (t && true)
-    and_true true = refl
-    and_true false = refl
-
-    and_false : (t : Bool) → (t && false) ≡ false
-    and_false true = refl
-    and_false false = refl
-
-    or_false : (t : Bool) → (t || false) ≡ t
-    or_false true = refl
-    or_false false = refl
-
-pub not_not : (t : Bool) → not (not t) ≡ t
-not_not true = refl
-not_not false = refl
-
-or_swap : (s t : Bool) → (s || t) ≡ (t || s)
-or_swap true true = refl
-or_swap true false = refl
-or_swap false true = refl
-or_swap false false = refl
-
-pub image_none : (a : Set) (r : Rel) → nothing ≡ image_below 0 a r
-unfolding image_below nothing some_below
-image_none a r = refl
-
-pub image_more : (n : ℕ) (a : Set) (r : Rel) → image_below (n + 1) a r ≡ either (image_below n a r) (only_if (a n) (r n))
-unfolding image_below either only_if
-image_more n a r = fun_ext (λ j. some_more n (λ k. a k && r k j) ∙ or_swap (a n && r n j) (some_below n (λ k. a k && r k j)))
 
 -- ---- the lowest pair
 
@@ -125,4 +104,4 @@ range_none r = refl
 
 pub range_more : (n : ℕ) (r : Rel) → range_below (n + 1) r ≡ either (range_below n r) (r n)
 unfolding range_below either
-range_more n r = fun_ext (λ j. some_more n (λ k. r k j) ∙ or_swap (r n j) (some_below n (λ k. r k j)))
+range_more n r = fun_ext (λ j. some_more n (λ k. r k j) ∙ or_comm (r n j) (some_below n (λ k. r k j)))

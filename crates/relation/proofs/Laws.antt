@@ -2,14 +2,10 @@
 use Rattle.std.proofs.Common.{◌≡◌, ℕ, zero, suc, ◌<◌, Bool, true, false, cond, not, ◌&&◌, ◌||◌, eqb, ltb, ◌⊎◌, Some, None, Option, sym, refl, ap, ◌∙◌, subst, ap₂, inl, inr, ⊎_elim, arith}
 use mathlib.Core.Path.{fun_ext}
 use Rattle.std.proofs.lemmas.Bool.{cases_eq, and_from, and_parts, or_cases, or_left, or_right, eqb-true}
+-- two tests that pass together are equal
+pub use Rattle.std.specs.Cmp.{both_ways as same_test}
 use Rattle.relation.specs.Algebra.{Set, Rel, image_below, least_below, or_else, either, single, pair, ◌∪◌, ◌∖◌, ◌⨾◌}
 use Rattle.relation.proofs.Below.{some_from, from_some}
-
--- two tests that pass together are equal
-pub same_test : (a b : Bool) → (a ≡ true → b ≡ true) → (b ≡ true → a ≡ true) → a ≡ b
-same_test true b f g = sym (f refl)
-same_test false true f g = g refl
-same_test false false f g = refl
 
 -- two relations with the same pairs are equal
 pub same_pairs : (r s : Rel) → ((i j : ℕ) → r i j ≡ true → s i j ≡ true) → ((i j : ℕ) → s i j ≡ true → r i j ≡ true) → r ≡ s

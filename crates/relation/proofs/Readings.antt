@@ -1,5 +1,5 @@
 -- What the operators say of a row or a relation, in the words of events and pairs.
-use Rattle.std.proofs.Common.{◌≡◌, ℕ, zero, suc, ◌<◌, ◌≤◌, Bool, true, false, not, ◌&&◌, Some, None, Option, sym, refl, ap, ◌∙◌, subst, ⊎_elim, arith}
+use Rattle.std.proofs.Common.{◌≡◌, ℕ, zero, suc, ◌<◌, ◌≤◌, Bool, true, false, not, ◌&&◌, Some, None, Option, MatchOption, IsSomeAnd, sym, refl, ap, ◌∙◌, subst, ⊎_elim, arith}
 use Rattle.std.proofs.lemmas.Bool.{cases_lt, cases_eq, and_from, and_parts}
 use Rattle.closure.proofs.Reached.{never}
 use Rattle.relation.specs.Algebra.{Set, Rel, some_below, least_below, or_else, beside, image, image_below, range, range_below, domain, lowest_loop, lowest_pair, lowest_pair_below, plus, ◌⨾◌}
@@ -7,7 +7,7 @@ use Rattle.relation.specs.Meaning.{members, holds}
 use Rattle.relation.specs.Reading.{NothingIn, Lowest, LowestLoop, LowestPair, ImageOf, RangeOf, DomainOf, StepsOf, ChainsOf}
 use Rattle.relation.specs.declared.Row.{Row}
 use Rattle.relation.specs.declared.Relation.{Relation}
-use Rattle.relation.proofs.Below.{some_from, from_some, some_none}
+use Rattle.relation.proofs.Below.{FirstIn, some_from, from_some, some_none, least_none, pair_is, pair_none}
 use Rattle.relation.proofs.Sets.{members_past}
 use Rattle.relation.proofs.Relations.{holds_starts, holds_ends, holds_first, holds_second}
 use Rattle.relation.proofs.Laws.{LeastOr, least_says, in_then, of_then}
@@ -71,6 +71,29 @@ pair_whole r None h = λ i j. ⊎_elim (h i j) (λ l. holds_starts r i j l) (cas
 pub pair_says : (r : Relation) (o : Option (ℕ × ℕ)) → o ≡ lowest_pair (holds r) → LowestPair (holds r) o
 unfolding lowest_pair
 pair_says r o e = subst (LowestPair (holds r)) (sym e) (pair_whole r (lowest_pair_below 64 (holds r)) (pair_says_below 64 r))
+
+-- the lowest pair by its first event, the lowest of the domain, and what the row of that event has
+empty_least : (a : Set) → some_below 64 a ≡ false → least_below 64 a ≡ None
+empty_least a e = least_none 64 a (λ j l. no j (a j) refl l)
+  where
+    no : (j : ℕ) (t : Bool) → a j ≡ t → j < 64 → a j ≡ false
+    no j true q l = never (sym e ∙ some_from 64 a j l q)
+    no j false q l = q
+
+pub pair_first_none : (r : Rel) → FirstIn 64 (domain r) None → None ≡ lowest_pair r
+unfolding lowest_pair domain
+pair_first_none r first = sym (pair_none 64 r (λ k l. empty_least (r k) (first k (omega arith) l)))
+
+pub pair_first : {P : ℕ → ℕ × ℕ → Type 0} (r : Rel) (i : ℕ) (o : Option ℕ) (q : Option (ℕ × ℕ)) → FirstIn 64 (domain r) (Some i)
+    → o ≡ least_below 64 (r i) → MatchOption o (q ≡ None) (λ j. IsSomeAnd q (P j)) → ((j : ℕ) (p : ℕ × ℕ) → P j p → p ≡ (i, j)) → q ≡ lowest_pair r
+unfolding lowest_pair domain
+pair_first r i None q first e made same =
+    let w = from_some 64 (r i) first.2 in
+    never (sym (subst (LeastOr 64 (r i)) (sym e) (least_says 64 (r i)) w.0 w.1) ∙ w.2)
+pair_first r i (Some j) None first e made same = absurd made
+pair_first r i (Some j) (Some p) first e made same =
+    ap (λ (s : ℕ × ℕ). Some s) (same j p made)
+    ∙ sym (pair_is 64 r i j first.1 (sym e) (λ k l. empty_least (r k) (first.3 k (omega arith) l)))
 
 -- ---- what is related to what, of a set or relation b that is found equal
 

@@ -1,11 +1,15 @@
 -- Relations by their rows.
-use Rattle.std.proofs.Common.{◌≡◌, ℕ, ◌<◌, ◌≤◌, Bool, true, false, ◌&&◌, ◌||◌, ltb, length, get_or, set, sym, refl, ap, ◌∙◌, ap₂, ⊎_elim}
+use Rattle.std.proofs.Common.{◌≡◌, ℕ, ◌<◌, ◌≤◌, Bool, true, false, not, ◌&&◌, ltb, length, get_or, set, Some, None, Option, sym, refl, ap, ◌∙◌, ap₂, ⊎_elim, arith}
+use denote.Ref.{Bor}
+use Rattle.std.specs.Option.{option_copied, unwrap_or}
+use Rattle.std.specs.Slice.{IsItemAt}
 use mathlib.Core.Path.{fun_ext}
+use Rattle.std.proofs.Math.Bool.{not-not, and-true, or-false}
 use Rattle.std.proofs.lemmas.Bool.{cases_lt, cases_eq, lt-ltb, le-ltb, eq-eqb, ne_eqb}
 use Rattle.std.proofs.lemmas.List.{get_or-set_same, get_or-set_other}
 use Rattle.closure.proofs.Reached.{never}
-use Rattle.relation.specs.Algebra.{Set, Rel, nothing, single, either, both, except, only_if, some_below, image, image_below, upto, domain, column, inverse, pair, cut, ◌∪◌, ◌∩◌, ◌∖◌, ◌⨾◌, ◌◁◌, ◌▷◌}
-use Rattle.relation.specs.Meaning.{members, blank, holds}
+use Rattle.relation.specs.Algebra.{Set, Rel, nothing, single, either, both, except, only_if, some_below, image, image_below, range, range_below, upto, domain, column, inverse, pair, cut, ◌∪◌, ◌∩◌, ◌∖◌, ◌⨾◌, ◌◁◌, ◌▷◌}
+use Rattle.relation.specs.Meaning.{members, blank, holds, StartsBelow}
 use Rattle.relation.specs.declared.Row.{Row}
 use Rattle.relation.specs.declared.Relation.{Relation}
 use Rattle.relation.proofs.Below.{some_none}
@@ -19,15 +23,17 @@ pub holds_past : (r : Relation) (i : ℕ) → 64 ≤ i → holds r i ≡ nothing
 unfolding holds
 holds_past r i l = ap (λ t. only_if t (members (get_or r.rows i blank))) (le-ltb i 64 l) ∙ only_false (members (get_or r.rows i blank))
 
+-- the row that `get` lends, and an empty one where it lends none
+pub row_got : (r : Relation) (i : ℕ) (o : Option (Bor Row)) (empty x : Row) → length r.rows ≡ 64 → IsItemAt r.rows i o → members empty ≡ nothing
+    → x ≡ unwrap_or (option_copied o) empty → members x ≡ holds r i
+row_got r i None empty x long got none e = ap members e ∙ none ∙ sym (holds_past r i (omega (arith, got.3)))
+row_got r i (Some y) empty x long got none e = ap members (e ∙ got.3.1 blank) ∙ sym (holds_row r i (omega (arith, got.3.0)))
+
 -- a relation by its rows
 pub holds_by : (r : Relation) (s : Rel) → ((i : ℕ) → i < 64 → members (get_or r.rows i blank) ≡ s i)
     → ((i : ℕ) → 64 ≤ i → s i ≡ nothing) → holds r ≡ s
 holds_by r s below past =
     fun_ext (λ i. ⊎_elim (λ l. holds_row r i l ∙ below i l) (λ l. holds_past r i l ∙ sym (past i l)) (cases_lt i 64))
-
--- no event past 63 starts a pair
-abbrev pub StartsBelow : Rel → Type 0
-StartsBelow s = (i : ℕ) → 64 ≤ i → s i ≡ nothing
 
 either_nothing : either nothing nothing ≡ nothing
 unfolding either nothing
@@ -49,33 +55,49 @@ only_nothing : (t : Bool) → only_if t nothing ≡ nothing
 only_nothing true = only_true nothing
 only_nothing false = only_false nothing
 
--- ---- each operation by its rows
+-- ---- each operation, row by row
 
-module _ (r a b : Relation) where
-  pub rows_or : ((i : ℕ) → i < 64 → members (get_or r.rows i blank) ≡ either (holds a i) (holds b i)) → holds r ≡ holds a ∪ holds b
-  unfolding ◌∪◌ either
-  rows_or h = holds_by r (holds a ∪ holds b) h (λ i l. ap₂ either (holds_past a i l) (holds_past b i l) ∙ either_nothing)
+pub or_row : (a b : Rel) (i : ℕ) → (a ∪ b) i ≡ either (a i) (b i)
+unfolding ◌∪◌ either
+or_row a b i = refl
 
-  pub rows_and : ((i : ℕ) → i < 64 → members (get_or r.rows i blank) ≡ both (holds a i) (holds b i)) → holds r ≡ holds a ∩ holds b
-  unfolding ◌∩◌ both
-  rows_and h = holds_by r (holds a ∩ holds b) h (λ i l. ap (λ s. both s (holds b i)) (holds_past a i l) ∙ both_nothing (holds b i))
+pub or_starts : (a b : Relation) → StartsBelow (holds a ∪ holds b)
+or_starts a b i l = or_row (holds a) (holds b) i ∙ ap₂ either (holds_past a i l) (holds_past b i l) ∙ either_nothing
 
-  pub rows_except : ((i : ℕ) → i < 64 → members (get_or r.rows i blank) ≡ except (holds a i) (holds b i)) → holds r ≡ holds a ∖ holds b
-  unfolding ◌∖◌ except
-  rows_except h = holds_by r (holds a ∖ holds b) h (λ i l. ap (λ s. except s (holds b i)) (holds_past a i l) ∙ except_nothing (holds b i))
+pub and_row : (a b : Rel) (i : ℕ) → (a ∩ b) i ≡ both (a i) (b i)
+unfolding ◌∩◌ both
+and_row a b i = refl
 
-  pub rows_then : ((i : ℕ) → i < 64 → members (get_or r.rows i blank) ≡ image (holds a i) (holds b)) → holds r ≡ holds a ⨾ holds b
-  unfolding ◌⨾◌ image_below
-  rows_then h = holds_by r (holds a ⨾ holds b) h (λ i l. ap (λ s. image s (holds b)) (holds_past a i l) ∙ image_nothing (holds b))
+pub and_starts : (a b : Relation) → StartsBelow (holds a ∩ holds b)
+and_starts a b i l = and_row (holds a) (holds b) i ∙ ap (λ s. both s (holds b i)) (holds_past a i l) ∙ both_nothing (holds b i)
 
-  -- with a set in place of b
-  pub rows_to : (s : Set) → ((i : ℕ) → i < 64 → members (get_or r.rows i blank) ≡ both (holds a i) s) → holds r ≡ holds a ▷ s
-  unfolding ◌▷◌ both
-  rows_to s h = holds_by r (holds a ▷ s) h (λ i l. ap (λ t. both t s) (holds_past a i l) ∙ both_nothing s)
+pub except_row : (a b : Rel) (i : ℕ) → (a ∖ b) i ≡ except (a i) (b i)
+unfolding ◌∖◌ except
+except_row a b i = refl
 
-  pub rows_from : (s : Set) → ((i : ℕ) → i < 64 → members (get_or r.rows i blank) ≡ only_if (s i) (holds a i)) → holds r ≡ s ◁ holds a
-  unfolding ◌◁◌ only_if
-  rows_from s h = holds_by r (s ◁ holds a) h (λ i l. ap (λ t. only_if (s i) t) (holds_past a i l) ∙ only_nothing (s i))
+pub except_starts : (a b : Relation) → StartsBelow (holds a ∖ holds b)
+except_starts a b i l = except_row (holds a) (holds b) i ∙ ap (λ s. except s (holds b i)) (holds_past a i l) ∙ except_nothing (holds b i)
+
+pub then_row : (a b : Rel) (i : ℕ) → (a ⨾ b) i ≡ image (a i) b
+unfolding ◌⨾◌ image_below
+then_row a b i = refl
+
+pub then_starts : (a b : Relation) → StartsBelow (holds a ⨾ holds b)
+then_starts a b i l = then_row (holds a) (holds b) i ∙ ap (λ s. image s (holds b)) (holds_past a i l) ∙ image_nothing (holds b)
+
+pub to_row : (a : Rel) (s : Set) (i : ℕ) → (a ▷ s) i ≡ both (a i) s
+unfolding ◌▷◌ both
+to_row a s i = refl
+
+pub to_starts : (a : Relation) (s : Set) → StartsBelow (holds a ▷ s)
+to_starts a s i l = to_row (holds a) s i ∙ ap (λ t. both t s) (holds_past a i l) ∙ both_nothing s
+
+pub from_row : (s : Set) (a : Rel) (i : ℕ) → (s ◁ a) i ≡ only_if (s i) (a i)
+unfolding ◌◁◌ only_if
+from_row s a i = refl
+
+pub from_starts : (s : Set) (a : Relation) → StartsBelow (s ◁ holds a)
+from_starts s a i l = from_row s (holds a) i ∙ ap (λ t. only_if (s i) t) (holds_past a i l) ∙ only_nothing (s i)
 
 pub holds_ends : (r : Relation) (i j : ℕ) → 64 ≤ j → holds r i j ≡ false
 unfolding nothing
@@ -106,23 +128,36 @@ domain_whole r =
     fun_ext (λ i. ⊎_elim (λ l. ap (λ t. t && some_below 64 (holds r i)) (lt-ltb i 64 l))
     (λ l. ap (λ t. t && some_below 64 (holds r i)) (le-ltb i 64 l) ∙ sym (some_none 64 (holds r i) (λ j m. holds_starts r i j l))) (cases_lt i 64))
 
-column_past : (r : Relation) (j : ℕ) → 64 ≤ j → column (holds r) j ≡ nothing
-unfolding column nothing
-column_past r j l = fun_ext (λ i. holds_ends r i j l)
+-- the range of the pairs that start in s
+pub image_range : (s : Set) (a : Rel) → range (s ◁ a) ≡ image s a
+unfolding ◌◁◌ image_below range_below
+image_range s a = refl
 
-pub rows_inverse : (r a : Relation) → ((i : ℕ) → i < 64 → members (get_or r.rows i blank) ≡ column (holds a) i) → holds r ≡ inverse (holds a)
+pub domain_at : (a : Rel) (i : ℕ) → not (not (some_below 64 (a i))) ≡ domain a i
+unfolding domain
+domain_at a i = not-not (some_below 64 (a i))
+
+pub column_at : (a : Rel) (j i : ℕ) → column a j i ≡ a i j
+unfolding column
+column_at a j i = refl
+
+pub inverse_row : (a : Rel) (i : ℕ) → inverse a i ≡ column a i
 unfolding inverse column
-rows_inverse r a h = holds_by r (column (holds a)) h (column_past a)
+inverse_row a i = refl
+
+pub inverse_starts : (a : Relation) → StartsBelow (inverse (holds a))
+unfolding inverse nothing
+inverse_starts a i l = fun_ext (λ j. holds_ends a j i l)
 
 -- ---- one pair
 
 either_none : (a : Set) → either a nothing ≡ a
 unfolding either nothing
-either_none a = fun_ext (λ j. elim (a j) as (λ t. (t || false) ≡ t) [ true ↦ refl | false ↦ refl ])
+either_none a = fun_ext (λ j. or-false (a j))
 
 except_none : (a : Set) → except a nothing ≡ a
 unfolding except nothing
-except_none a = fun_ext (λ j. elim (a j) as (λ t. (t && true) ≡ t) [ true ↦ refl | false ↦ refl ])
+except_none a = fun_ext (λ j. and-true (a j))
 
 set_row : (r a : Relation) (i : ℕ) (x : Row) → i < 64 → i < length a.rows → r.rows ≡ set a.rows i x → holds r i ≡ members x
 set_row r a i x l m e =
@@ -186,3 +221,6 @@ cut_in n p i l = sym (ap (λ t. only_if t (upto n (p i))) (lt-ltb i n l) ∙ onl
 pub cut_past : (n : ℕ) (p : Rel) (i : ℕ) → n ≤ i → cut n p i ≡ nothing
 unfolding cut only_if upto
 cut_past n p i l = ap (λ t. only_if t (upto n (p i))) (le-ltb i n l) ∙ only_false (upto n (p i))
+
+pub cut_starts : (p : Rel) (n : ℕ) → n ≤ 64 → StartsBelow (cut n p)
+cut_starts p n l i k = cut_past n p i (omega arith)

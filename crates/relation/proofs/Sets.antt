@@ -1,14 +1,18 @@
 -- Rows as sets.
-use Rattle.std.proofs.Common.{◌≡◌, ℕ, ◌-◌, ◌^◌, ◌<◌, ◌≤◌, Bool, true, false, not, ◌&&◌, ◌||◌, eqb, ltb, Some, sym, refl, ap, ◌∙◌, ap₂, ⊎_elim, arith}
+use Rattle.std.proofs.Common.{◌≡◌, ℕ, ◌-◌, ◌^◌, ◌<◌, ◌≤◌, Bool, true, false, not, ◌&&◌, ◌||◌, eqb, ltb, Some, None, Option, is_some, IfSome, sym, refl, ap, ◌∙◌, ap₂, ⊎_elim, arith}
 use mathlib.Core.Path.{fun_ext}
 use lib.Bits.{bit_and, bit_or}
-use Rattle.std.proofs.lemmas.Bool.{cases_lt, cases_eq, lt-ltb, le-ltb, eq-eqb, ne_eqb}
+use Rattle.std.specs.Cmp.{both_ways}
+use Rattle.std.proofs.Math.Bool.{and-true, not-not}
+use Rattle.std.proofs.lemmas.Bool.{and_right, and_from, and_parts, eqb-true, cases_lt, cases_eq, lt-ltb, le-ltb, eq-eqb, ne_eqb}
 use Rattle.relation.specs.Algebra.{Set, nothing, everything, single, below, either, both, except, only_if, some_below, least_below}
 use Rattle.relation.specs.Bits.{member}
 use Rattle.relation.specs.Meaning.{members}
+use Rattle.relation.specs.Reading.{NothingIn}
+use Rattle.closure.proofs.Reached.{never}
 use Rattle.relation.specs.declared.Row.{Row}
 use lib.Count.{count_trailing_zeros}
-use Rattle.relation.proofs.Below.{some_from, some_none, least_is}
+use Rattle.relation.proofs.Below.{some_from, from_some, some_none, least_is, least_none}
 use Rattle.relation.proofs.Digits.{member_zero, member_ones, member_or, member_and, member_except, member_single, trailing_at, trailing_below}
 
 pub members_in : (r : Row) (j : ℕ) → j < 64 → members r j ≡ member r.bits j
@@ -66,6 +70,21 @@ row_single r i h e =
     members_by r (single i) (λ j l. ap (λ n. member n j) e ∙ member_single i j ∙ sym (single_event i j h))
     (λ j l. single_event i j h ∙ ne_eqb i j (λ q. omega arith))
 
+-- i is in a where a and the set of i have an event in common
+pub meets_single : (r : Row) (i : ℕ) → some_below 64 (both (members r) (single i)) ≡ members r i
+unfolding both single
+meets_single r i = both_ways _ _
+    (λ h.
+    let w = from_some 64 (both (members r) (single i)) h in
+    let p = and_parts (members r w.0) (single i w.0) w.2 in
+    ap (members r) (eqb-true i w.0 (and_parts (ltb i 64) (eqb i w.0) p.1).1) ∙ p.0)
+    (λ h. ⊎_elim
+    (λ (l : i < 64). some_from 64 (both (members r) (single i)) i l (and_from (members r i) (single i i) h (single_event i i l ∙ eq-eqb i i refl)))
+    (λ l. never (sym (members_past r i l) ∙ h)) (cases_lt i 64))
+
+pub has_test : (r : Row) (i : ℕ) (empty : Bool) → empty ≡ not (some_below 64 (both (members r) (single i))) → not empty ≡ members r i
+has_test r i empty e = ap not e ∙ not-not _ ∙ meets_single r i
+
 -- ---- all events, and those below n
 
 pub row_all : (r : Row) → r.bits ≡ 2 ^ 64 - 1 → members r ≡ everything
@@ -76,22 +95,14 @@ pub row_below : (r : Row) (n : ℕ) → n < 64 → r.bits ≡ 2 ^ n - 1 → memb
 unfolding below
 row_below r n h e =
     members_by r (below n)
-    (λ j l. ap (λ m. member m j) e ∙ member_ones n j ∙ sym (ap (λ t. ltb j n && t) (lt-ltb j 64 l) ∙ and_true (ltb j n)))
+    (λ j l. ap (λ m. member m j) e ∙ member_ones n j ∙ sym (ap (λ t. ltb j n && t) (lt-ltb j 64 l) ∙ and-true (ltb j n)))
     (λ j l. ap (λ t. t && ltb j 64) (le-ltb j n (omega arith)))
-  where
-    and_true : (t : Bool) → (t && true) ≡ t
-    and_true true = refl
-    and_true false = refl
 
 pub below_all : (n : ℕ) → 64 ≤ n → everything ≡ below n
 unfolding below everything
 below_all n h =
     fun_ext (λ j. ⊎_elim (λ l. ap (λ t. t && ltb j 64) (sym (lt-ltb j n (omega arith))))
-    (λ l. le-ltb j 64 l ∙ sym (past (ltb j n) (ltb j 64) (le-ltb j 64 l))) (cases_lt j 64))
-  where
-    past : (s t : Bool) → t ≡ false → (s && t) ≡ false
-    past true t e = e
-    past false t e = refl
+    (λ l. le-ltb j 64 l ∙ sym (and_right (ltb j n) (ltb j 64) (le-ltb j 64 l))) (cases_lt j 64))
 
 pub only_true : (a : Set) → only_if true a ≡ a
 unfolding only_if
@@ -122,6 +133,14 @@ row_lowest r ne h =
 
 pub row_some : (r : Row) → (r.bits ≡ 0 → ⊥) → r.bits < 2 ^ 64 → some_below 64 (members r) ≡ true
 row_some r ne h = some_from 64 (members r) (count_trailing_zeros 64 r.bits) (row_lowest_in r ne h) (row_lowest_at r ne h)
+
+-- the place of the lowest digit, unless the row is said to be empty
+pub row_least : (r : Row) (empty : Bool) (o : Option ℕ) → r.bits < 2 ^ 64 → NothingIn (members r) empty → is_some o ≡ not empty
+    → IfSome o (λ k. k ≡ count_trailing_zeros 64 r.bits) → o ≡ least_below 64 (members r)
+row_least r true None h none e k = sym (least_none 64 (members r) (λ j l. none.0 refl j))
+row_least r true (Some k) h none e place = never (sym e)
+row_least r false None h none e place = never e
+row_least r false (Some k) h none e place = ap (λ (n : ℕ). Some n) place ∙ sym (row_lowest r (λ z. never (none.1 (row_none r z))) h)
 
 -- the test of `is_empty`
 pub row_vacant : (r : Row) → r.bits < 2 ^ 64 → eqb r.bits 0 ≡ not (some_below 64 (members r))

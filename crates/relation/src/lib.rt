@@ -2,22 +2,22 @@
 // nothing, and adding it alters nothing.
 #![tactic(auto)]
 
-ghost use Rattle.std.specs.Prelude.{◌≡◌, ℕ, ◌<◌, ◌≤◌, min, Bool, false, not, length};
+ghost use Rattle.std.specs.Prelude.{◌≡◌, ℕ, ◌<◌, ◌≤◌, min, Bool, false, not};
 ghost use Rattle.closure.specs.Steps.{table};
-ghost use Rattle.relation.specs.Algebra.{none, nothing, everything, below, single, either, both, except, only_if, some_below, least_below, image, range, domain, column, inverse, plus, cut, lowest_loop, lowest_pair, pair, ◌∪◌, ◌∩◌, ◌∖◌, ◌⨾◌, ◌◁◌, ◌▷◌};
-ghost use Rattle.relation.specs.Meaning.{members, holds, Laid};
+ghost use Rattle.relation.specs.Algebra.{Set, Rel, upto, none, nothing, everything, below, single, either, both, except, only_if, some_below, least_below, image, range, domain, column, inverse, plus, cut, lowest_loop, lowest_pair, pair, ◌∪◌, ◌∩◌, ◌∖◌, ◌⨾◌, ◌◁◌, ◌▷◌};
+ghost use Rattle.relation.specs.Meaning.{members, holds, Laid, StartsBelow, GivesRows, GivesTests};
 ghost use Rattle.relation.specs.Reading.{NothingIn, Lowest, LowestLoop, LowestPair, ImageOf, RangeOf, DomainOf, StepsOf, ChainsOf};
 
 use closure::reach;
 
 // How many events there are: they are the numbers below.
-const EVENTS: usize = 64;
+pub const EVENTS: usize = 64;
 
 // How many pairs of events there are.
 const ENTRIES: usize = EVENTS * EVENTS;
 
 // A set of events 0 to 63: event j is a member where bit j is set.
-#[derive(Clone, Copy)]
+#[derive(Clone, Copy, PartialEq, Eq, Debug)]
 pub struct Row {
     bits: u64,
 }
@@ -63,7 +63,7 @@ impl Row {
     pub fn has(self, i: usize) -> bool
         ensures { result ≡ members self i }
     {
-        i < EVENTS && self.bits >> i & 1 == 1
+        !self.intersection(Row::of(i)).is_empty()
     }
 
     // The events of this set or the other.
@@ -127,16 +127,13 @@ impl Row {
         ensures is { result ≡ least_below 64 (members self) }
         ensures lowest { Lowest (members self) result }
     {
-        if self.is_empty() {
-            None
-        } else {
-            Some(self.bits.trailing_zeros() as usize)
-        }
+        (!self.is_empty()).then(|| self.bits.trailing_zeros() as usize)
     }
 }
 
-// A relation on the events 0 to 63: row i has the events that i is related to.
-#[derive(Clone, Copy)]
+// A relation on the events 0 to 63: row i has the events that i is related to. A pair is given by its two events, which a struct
+// of the two would only hold until each method takes them apart.
+#[derive(Clone, Copy, PartialEq, Eq, Debug)]
 pub struct Relation {
     rows: [Row; EVENTS],
 }
@@ -155,10 +152,7 @@ impl Relation {
     pub fn row(&self, i: usize) -> Row
         ensures { members result ≡ holds self.now i }
     {
-        if i < EVENTS {
-            return self.rows[i];
-        }
-        Row::empty()
+        self.rows.get(i).copied().unwrap_or(Row::empty())
     }
 
     // Whether i is related to j.
@@ -169,6 +163,7 @@ impl Relation {
     }
 
     // Adds the pair of i and j, where both are events.
+    // Written by its index: after `get_mut` a proof knows no row of the array.
     pub fn add(&mut self, i: usize, j: usize)
         ensures { holds self.new ≡ holds self.old ∪ pair i j }
     {
@@ -178,6 +173,7 @@ impl Relation {
     }
 
     // Takes the pair of i and j out.
+    // Written by its index, as in `add`.
     pub fn remove(&mut self, i: usize, j: usize)
         ensures { holds self.new ≡ holds self.old ∖ pair i j }
     {
@@ -190,55 +186,35 @@ impl Relation {
     pub fn union(&self, other: &Relation) -> Relation
         ensures { holds result ≡ holds self.now ∪ holds other.now }
     {
-        let mut rows = [Row { bits: 0 }; EVENTS];
-        for i in 0..EVENTS {
-            rows[i] = self.row(i).union(other.row(i));
-        }
-        Relation { rows }
+        by_rows(|i| self.row(i).union(other.row(i)))
     }
 
     // The pairs of both.
     pub fn intersection(&self, other: &Relation) -> Relation
         ensures { holds result ≡ holds self.now ∩ holds other.now }
     {
-        let mut rows = [Row { bits: 0 }; EVENTS];
-        for i in 0..EVENTS {
-            rows[i] = self.row(i).intersection(other.row(i));
-        }
-        Relation { rows }
+        by_rows(|i| self.row(i).intersection(other.row(i)))
     }
 
     // The pairs of this relation that are not of the other.
     pub fn difference(&self, other: &Relation) -> Relation
         ensures { holds result ≡ holds self.now ∖ holds other.now }
     {
-        let mut rows = [Row { bits: 0 }; EVENTS];
-        for i in 0..EVENTS {
-            rows[i] = self.row(i).difference(other.row(i));
-        }
-        Relation { rows }
+        by_rows(|i| self.row(i).difference(other.row(i)))
     }
 
     // The pairs that start in `set`.
     pub fn from(&self, set: Row) -> Relation
         ensures { holds result ≡ members set ◁ holds self.now }
     {
-        let mut rows = [Row { bits: 0 }; EVENTS];
-        for i in 0..EVENTS {
-            rows[i] = self.row(i).only_if(set.has(i));
-        }
-        Relation { rows }
+        by_rows(|i| self.row(i).only_if(set.has(i)))
     }
 
     // The pairs that end in `set`.
     pub fn to(&self, set: Row) -> Relation
         ensures { holds result ≡ holds self.now ▷ members set }
     {
-        let mut rows = [Row { bits: 0 }; EVENTS];
-        for i in 0..EVENTS {
-            rows[i] = self.row(i).intersection(set);
-        }
-        Relation { rows }
+        by_rows(|i| self.row(i).intersection(set))
     }
 
     // What the members of `set` are related to.
@@ -246,11 +222,7 @@ impl Relation {
         ensures is { members result ≡ image (members set) (holds self.now) }
         ensures member { ImageOf (members set) (holds self.now) (members result) }
     {
-        let mut all = Row::empty();
-        for k in 0..EVENTS {
-            all = all.union(self.row(k).only_if(set.has(k)));
-        }
-        all
+        joined(|k| self.row(k).only_if(set.has(k)))
     }
 
     // What some event is related to.
@@ -258,11 +230,7 @@ impl Relation {
         ensures is { members result ≡ range (holds self.now) }
         ensures member { RangeOf (holds self.now) (members result) }
     {
-        let mut all = Row::empty();
-        for k in 0..EVENTS {
-            all = all.union(self.row(k));
-        }
-        all
+        joined(|k| self.row(k))
     }
 
     // The events that are related to some event.
@@ -270,11 +238,7 @@ impl Relation {
         ensures is { members result ≡ domain (holds self.now) }
         ensures member { DomainOf (holds self.now) (members result) }
     {
-        let mut all = Row::empty();
-        for i in 0..EVENTS {
-            all = all.union(Row::of(i).only_if(!self.row(i).is_empty()));
-        }
-        all
+        those(EVENTS, |i| !self.row(i).is_empty())
     }
 
     // A step of this relation, then one of `next`.
@@ -282,33 +246,21 @@ impl Relation {
         ensures is { holds result ≡ holds self.now ⨾ holds next.now }
         ensures member { StepsOf (holds self.now) (holds next.now) (holds result) }
     {
-        let mut rows = [Row { bits: 0 }; EVENTS];
-        for i in 0..EVENTS {
-            rows[i] = next.image(self.row(i));
-        }
-        Relation { rows }
+        by_rows(|i| next.image(self.row(i)))
     }
 
     // What is related to j.
     pub fn column(&self, j: usize) -> Row
         ensures { members result ≡ column (holds self.now) j }
     {
-        let mut all = Row::empty();
-        for i in 0..EVENTS {
-            all = all.union(Row::of(i).only_if(self.has(i, j)));
-        }
-        all
+        those(EVENTS, |i| self.has(i, j))
     }
 
     // The pairs, each turned around.
     pub fn inverse(&self) -> Relation
         ensures { holds result ≡ inverse (holds self.now) }
     {
-        let mut rows = [Row { bits: 0 }; EVENTS];
-        for j in 0..EVENTS {
-            rows[j] = self.column(j);
-        }
-        Relation { rows }
+        by_rows(|j| self.column(j))
     }
 
     // All chains of one or more steps of this relation: its transitive closure.
@@ -327,12 +279,7 @@ impl Relation {
         ensures is { result ≡ lowest_loop (holds self.now) }
         ensures lowest { LowestLoop (holds self.now) result }
     {
-        for i in 0..EVENTS {
-            if self.has(i, i) {
-                return Some(i);
-            }
-        }
-        None
+        (0..EVENTS).find(|i| self.has(*i, *i))
     }
 
     // The lowest pair, by its first event and then its second, if there is one.
@@ -340,50 +287,74 @@ impl Relation {
         ensures is { result ≡ lowest_pair (holds self.now) }
         ensures lowest { LowestPair (holds self.now) result }
     {
-        for i in 0..EVENTS {
-            if let Some(j) = self.row(i).lowest() {
-                return Some((i, j));
-            }
-        }
-        None
+        let i = (0..EVENTS).find(|i| !self.row(*i).is_empty())?;
+        self.row(i).lowest().map(|j| (i, j))
     }
 }
 
-// Writes the pairs of `r` as a table of yes and no, row after row: entry p is that of p / 64 and p % 64.
-fn lay_out(r: &Relation, steps: &mut [bool])
-    requires { length steps.old ≡ 4096 }
-    ensures { Laid (holds r.now) steps.new 4096 }
-{
-    for p in 0..ENTRIES {
-        steps[p] = r.has(p / EVENTS, p % EVENTS);
-    }
-}
-
-// Row i of a table of yes and no.
-fn read_row(steps: &[bool], i: usize) -> Row
-    requires { (length steps.now ≡ 4096) × (i < 64) }
-    ensures { members result ≡ cut 64 (table false 64 steps.now) i }
-{
-    let mut all = Row::empty();
-    for j in 0..EVENTS {
-        all = all.union(Row::of(j).only_if(steps[i * EVENTS + j]));
-    }
-    all
-}
-
-// The relation of a table of yes and no.
-fn read_back(steps: &[bool]) -> Relation
-    requires { length steps.now ≡ 4096 }
-    ensures { holds result ≡ cut 64 (table false 64 steps.now) }
+// The relation whose rows `row` gives.
+fn by_rows<F: Fn(usize) -> Row>(row: F) -> Relation
+    requires { (i : ℕ) → i < 64 → F.pre row i }
+    ensures { (r : Rel) → GivesRows (F.post row) r → StartsBelow r → holds result ≡ r }
 {
     let mut rows = [Row { bits: 0 }; EVENTS];
-    for i in 0..EVENTS {
-        rows[i] = read_row(steps, i);
+    for (i, place) in rows.iter_mut().enumerate() {
+        *place = row(i);
     }
     Relation { rows }
 }
 
+// The events of all the rows that `row` gives.
+fn joined<F: Fn(usize) -> Row>(row: F) -> Row
+    requires { (i : ℕ) → i < 64 → F.pre row i }
+    ensures { (r : Rel) → GivesRows (F.post row) r → members result ≡ range r }
+{
+    let mut all = Row::empty();
+    for k in 0..EVENTS {
+        all = all.union(row(k));
+    }
+    all
+}
+
+// The events below n that pass `keep`.
+fn those<F: Fn(usize) -> bool>(n: usize, keep: F) -> Row
+    requires few { n ≤ 64 }
+    requires may { (i : ℕ) → i < n → F.pre keep i }
+    ensures { (a : Set) → GivesTests (F.post keep) n a → members result ≡ upto n a }
+{
+    let mut all = Row::empty();
+    for j in 0..n {
+        all = all.union(Row::of(j).only_if(keep(j)));
+    }
+    all
+}
+
+// Writes the pairs of `r` as a table of yes and no, row after row: entry p is that of p / 64 and p % 64.
+fn lay_out(r: &Relation, steps: &mut [bool; ENTRIES])
+    ensures { Laid (holds r.now) steps.new 4096 }
+{
+    for (p, step) in steps.iter_mut().enumerate() {
+        *step = r.has(p / EVENTS, p % EVENTS);
+    }
+}
+
+// Row i of a table of yes and no.
+fn read_row(steps: &[bool; ENTRIES], i: usize) -> Row
+    requires { i < 64 }
+    ensures { members result ≡ cut 64 (table false 64 steps.now) i }
+{
+    those(EVENTS, |j| steps[i * EVENTS + j])
+}
+
+// The relation of a table of yes and no.
+fn read_back(steps: &[bool; ENTRIES]) -> Relation
+    ensures { holds result ≡ cut 64 (table false 64 steps.now) }
+{
+    by_rows(|i| read_row(steps, i))
+}
+
 // A test on pairs of events, `relates` in the contracts.
+// A trait and no closure: `tabulate` is public, and its contract equates where it could only quantify over what a closure gives.
 pub trait Pairs {
     ghost relates: { Self → ℕ → ℕ → Bool };
 
@@ -399,21 +370,13 @@ fn tabulate_row<P: Pairs>(p: &P, i: usize, n: usize) -> Row
     if i >= n {
         return Row::empty();
     }
-    let mut all = Row::empty();
-    for j in 0..n {
-        all = all.union(Row::of(j).only_if(p.related(i, j)));
-    }
-    all
+    those(n, |j| p.related(i, j))
 }
 
 // The pairs of events below `n` that `p` relates; of all events where `n` is 64 or more.
 pub fn tabulate<P: Pairs>(p: &P, n: usize) -> Relation
     ensures { holds result ≡ cut (min n 64) (P.relates p.now) }
 {
-    let events = if n < EVENTS { n } else { EVENTS };
-    let mut rows = [Row { bits: 0 }; EVENTS];
-    for i in 0..EVENTS {
-        rows[i] = tabulate_row(p, i, events);
-    }
-    Relation { rows }
+    let events = n.min(EVENTS);
+    by_rows(|i| tabulate_row(p, i, events))
 }

@@ -1,6 +1,6 @@
 -- Which calls stand in their place, and what they are answered.
-use Rattle.std.proofs.Common.{◌≡◌, ℕ, true, false, length, is_some, Some, None, Option, Result, sym, refl, ap, ◌∙◌}
-use Rattle.sheet.specs.declared.row.Fields.{Fields}
+use Rattle.std.proofs.Common.{◌≡◌, ℕ, true, false, is_some, Some, None, Ok, Err, Option, Result, MatchResult, sym, refl, ap, subst}
+use Rattle.std.specs.Result.{IsOkAnd}
 use Rattle.sheet.specs.declared.calls.Edge.{Edge}
 use Rattle.sheet.specs.declared.calls.Edge.TheVariants.{Order}
 use Rattle.sheet.specs.declared.calls.Refusal.{Refusal}
@@ -11,43 +11,32 @@ use Rattle.sheet.specs.declared.closed.ClosedSheet.{ClosedSheet}
 use Rattle.sheet.specs.Book.{Book, absent, full, bad_field, cannot_carry, differ, there, refusal, after, accepted, ended, given}
 use Rattle.sheet.specs.Sheets.{open_book, closed_book}
 use Rattle.sheet.proofs.Trials.{refused_alike}
-use Rattle.replay.specs.declared.answers.Answer.{Answer}
-use Rattle.replay.specs.declared.answers.Answer.TheVariants.{Number, Done}
-use Rattle.replay.specs.Runs.{place, reply, answered, answer, number_of, done_of}
+use Rattle.replay.specs.Runs.{Answer, place, reply, answer}
 use Rattle.replay.specs.Phases.{adds}
 
 -- ---- answers
 
-number_given : (o : Option Refusal) (n : ℕ) → number_of (given o n) ≡ answered o (Number n)
-number_given None n = refl
-number_given (Some r) n = refl
+-- a call's own result as an answer
+pub mapped : {A : Type 0} (Q : A → Option ℕ → Type 0) (o : Option Refusal) (x : A) (v : Option ℕ) (r : Result A Refusal) (a : Answer) → ((y : Option ℕ) → Q x y → y ≡ v)
+    → r ≡ given o x → MatchResult r (λ z. IsOkAnd a (Q z)) (λ e. a ≡ Err e) → a ≡ given o v
+mapped Q None x v r a f e h = go a (subst (λ z. MatchResult z (λ z. IsOkAnd a (Q z)) (λ e. a ≡ Err e)) e h)
+  where
+    go : (a : Answer) → IsOkAnd a (Q x) → a ≡ Ok v
+    go (Ok y) q = ap Ok (f y q)
+    go (Err y) q = absurd q
+mapped Q (Some s) x v r a f e h = subst (λ z. MatchResult z (λ z. IsOkAnd a (Q z)) (λ e. a ≡ Err e)) e h
 
-done_given : (o : Option Refusal) → done_of (given o tt) ≡ answered o Done
-done_given None = refl
-done_given (Some r) = refl
-
-pub thread_answer : (b : Book) (x y : ℕ) (a : Answer) (r : Result ℕ Refusal) → a ≡ number_of r → r ≡ given (refusal b (AddThread x y)) (length b.threads) → a ≡ answer b (AddThread x y)
+-- a trial is answered as an order is
+pub try_answer : (b : Book) (x y : ℕ) → given (refusal b (Lay Order x y)) None ≡ answer b (Try x y)
 unfolding answer reply
-thread_answer b x y a r p q = p ∙ ap number_of q ∙ number_given (refusal b (AddThread x y)) (length b.threads)
-
-pub event_answer : (b : Book) (f : Fields) (a : Answer) (r : Result ℕ Refusal) → a ≡ number_of r → r ≡ given (refusal b (AddEvent f)) (length b.events) → a ≡ answer b (AddEvent f)
-unfolding answer reply
-event_answer b f a r p q = p ∙ ap number_of q ∙ number_given (refusal b (AddEvent f)) (length b.events)
-
-pub lay_answer : (b : Book) (e : Edge) (x y : ℕ) (a : Answer) (r : Result (Unit {0}) Refusal) → a ≡ done_of r → r ≡ given (refusal b (Lay e x y)) tt → a ≡ answer b (Lay e x y)
-unfolding answer reply
-lay_answer b e x y a r p q = p ∙ ap done_of q ∙ done_given (refusal b (Lay e x y))
-
-pub try_answer : (b : Book) (x y : ℕ) (a : Answer) (r : Result (Unit {0}) Refusal) → a ≡ done_of r → r ≡ given (refusal b (Lay Order x y)) tt → a ≡ answer b (Try x y)
-unfolding answer reply
-try_answer b x y a r p q = p ∙ ap done_of q ∙ done_given (refusal b (Lay Order x y)) ∙ ap (λ o. answered o Done) (sym (refused_alike b x y))
+try_answer b x y = ap (λ o. given o None) (sym (refused_alike b x y))
 
 -- close and the end of a trial are never refused
-pub close_answer : (b : Book) → Done ≡ answer b Close
+pub close_answer : (b : Book) → Ok None ≡ answer b Close
 unfolding answer reply refusal absent full bad_field cannot_carry differ there
 close_answer b = refl
 
-pub end_answer : (b : Book) → Done ≡ answer b End
+pub end_answer : (b : Book) → Ok None ≡ answer b End
 unfolding answer reply refusal absent full bad_field cannot_carry differ there
 end_answer b = refl
 

@@ -22,8 +22,8 @@ with_standing b (Some s) =
 
 -- the book as it stood where the calls stopped
 abbrev pub stood : Outcome → Book
-stood o = with_standing (stage_book o.stage) o.standing
+stood o = with_standing (stage_book o.stage) o.stop.standing
 
 -- an outcome as a run
 abbrev pub outcome_run : Outcome → Run
-outcome_run o = record { answers = vec_items o.answers; book = stood o; whole = o.whole }
+outcome_run o = record { answers = vec_items o.answers; book = stood o; whole = o.stop.whole }

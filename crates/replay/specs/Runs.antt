@@ -1,11 +1,9 @@
 -- What a list of calls comes to. Assumes nothing.
-use Rattle.std.specs.Prelude.{ℕ, Bool, true, false, cond, not, ◌&&◌, List, [], ◌∷◌, ◌++◌, length, is_some, Some, None, Ok, Err, Option, Result}
+use Rattle.std.specs.Prelude.{ℕ, Bool, true, false, cond, not, ◌&&◌, List, [], ◌∷◌, ◌++◌, length, is_some, Some, None, Option, Result}
 use Rattle.sheet.specs.declared.calls.Refusal.{Refusal}
 use Rattle.sheet.specs.declared.calls.Call.{Call}
 use Rattle.sheet.specs.declared.calls.Call.TheVariants.{Thread as AddThread, Event as AddEvent, Close, Lay, Try, End}
-use Rattle.sheet.specs.Book.{Book, refusal, after}
-use Rattle.replay.specs.declared.answers.Answer.{Answer}
-use Rattle.replay.specs.declared.answers.Answer.TheVariants.{Number, Done, Refused}
+use Rattle.sheet.specs.Book.{Book, refusal, given, after}
 
 -- whether a call stands in its place: threads, events and close before close, edges and tries after it, in a trial its end alone
 unfoldable pub place : Book → Call → Bool
@@ -16,33 +14,22 @@ place b (Lay e x y) = b.closed && not (is_some b.trial)
 place b (Try x y) = b.closed && not (is_some b.trial)
 place b End = is_some b.trial
 
--- what an accepted call is answered: the number of the new thread or event, or that it is done
-unfoldable pub reply : Book → Call → Answer
-reply b (AddThread x y) = Number (length b.threads)
-reply b (AddEvent f) = Number (length b.events)
-reply b Close = Done
-reply b (Lay e x y) = Done
-reply b (Try x y) = Done
-reply b End = Done
+-- what a call is answered: a number or none, or why it is refused
+abbrev pub Answer : Type 0
+Answer = Result (Option ℕ) Refusal
+
+-- what an accepted call is answered: the number of the new thread or event, or none
+unfoldable pub reply : Book → Call → Option ℕ
+reply b (AddThread x y) = Some (length b.threads)
+reply b (AddEvent f) = Some (length b.events)
+reply b Close = None
+reply b (Lay e x y) = None
+reply b (Try x y) = None
+reply b End = None
 
 -- a refused call is answered by its refusal
-abbrev pub answered : Option Refusal → Answer → Answer
-answered None a = a
-answered (Some r) a = Refused r
-
--- what a call is answered
 unfoldable pub answer : Book → Call → Answer
-answer b c = answered (refusal b c) (reply b c)
-
--- a call's own result as an answer, where it gives a number
-abbrev pub number_of : Result ℕ Refusal → Answer
-number_of (Ok n) = Number n
-number_of (Err r) = Refused r
-
--- a call's own result as an answer, where it gives nothing
-abbrev pub done_of : Result (Unit {0}) Refusal → Answer
-done_of (Ok n) = Done
-done_of (Err r) = Refused r
+answer b c = given (refusal b c) (reply b c)
 
 -- what a list of calls comes to: its answers, the book as it stands then, and whether every call stood in its place
 pub record Run : Type 0 where

@@ -1,115 +1,104 @@
 // The calls after close.
-ghost use Rattle.std.specs.Prelude.{◌≡◌, ◌+◌, ◌<◌, length, IfOk};
-ghost use Rattle.sheet.specs.Book.{after, ended, given, refusal};
+ghost use Rattle.std.specs.Prelude.{◌∷◌, length, IfOk};
+ghost use Rattle.sheet.specs.Book.{after, ended};
 ghost use Rattle.sheet.specs.Sheets.{closed_book};
 ghost use Rattle.sheet.specs.Trials.{trial_book};
-ghost use Rattle.sheet.specs.declared.calls.Call.TheVariants.{Lay, Try};
+ghost use Rattle.sheet.specs.declared.calls.Call.TheVariants.{Try};
 ghost use Rattle.replay.specs.Phases.{SameBook, Stopped, Turned};
 
-use crate::answers::{Answer, done};
-use crate::outcome::Standing;
-use crate::turns::Turn;
-use sheet::calls::{Call, Edge, Refusal};
+use crate::answers::Answer;
+use crate::outcome::{Standing, Stop};
+use sheet::calls::Call;
 use sheet::closed::ClosedSheet;
 use sheet::trial::Trial;
 use std::alloc::AllocError;
+use std::ops::ControlFlow;
 
-fn lay(sheet: &mut ClosedSheet, edge: Edge, first: u8, second: u8) -> Result<(), Refusal>
-    ensures answers { result ≡ given (refusal (closed_book sheet.old) (Lay edge first second)) tt }
-    ensures book { closed_book sheet.new ≡ after (closed_book sheet.old) (Lay edge first second) }
-{
-    match edge {
-        Edge::ReadFrom => sheet.read_from(first, second),
-        Edge::Order => sheet.order(first, second),
-        Edge::Atomic => sheet.atomic(first, second),
-        Edge::Depend => sheet.depend(first, second),
-    }
-}
+// Sheet, calls and answers are lent apart, since a trial borrows the sheet alone.
 
 // The call after a try: the end of the trial, or the calls stop. Where the try was refused, no trial stands and the calls
-// go on.
-fn trial_turn(
+// go on. Tells the calls that are left.
+fn trial_turn<'c>(
     trial: &Trial,
-    calls: &[Call],
-    i: usize,
+    calls: &'c [Call],
     answers: &mut Vec<Answer>,
-) -> Result<Turn, AllocError>
-    ensures { IfOk result (λ t. Turned i calls.now (trial_book trial.now) answers.old.items i (ended (trial_book trial.now)) answers.new.items t) }
+) -> Result<ControlFlow<Stop, &'c [Call]>, AllocError>
+    ensures { IfOk result (λ t. Turned (length calls.now) calls.now (trial_book trial.now) answers.old.items (ended (trial_book trial.now)) answers.new.items t) }
 {
     let Some((first, second)) = trial.edge() else {
-        return Ok(Turn::Next(i));
+        return Ok(ControlFlow::Continue(calls));
     };
-    let standing = Some(Standing {
-        edges: trial.edges(),
-        first,
-        second,
-    });
-    if i >= calls.len() {
-        return Ok(Turn::Stop(true, standing));
-    }
-    match calls[i] {
+    let stop = Stop {
+        whole: calls.is_empty(),
+        standing: Some(Standing {
+            edges: trial.edges(),
+            first,
+            second,
+        }),
+    };
+    let Some((call, rest)) = calls.split_first() else {
+        return Ok(ControlFlow::Break(stop));
+    };
+    match call {
         Call::End => {
-            answers.push(Answer::Done)?;
-            Ok(Turn::Next(i + 1))
+            answers.push(Ok(None))?;
+            Ok(ControlFlow::Continue(rest))
         }
-        _ => Ok(Turn::Stop(false, standing)),
+        _ => Ok(ControlFlow::Break(stop)),
     }
 }
 
 // A trial, which ends when this returns, on whichever way out.
-fn under_trial(
+fn under_trial<'c>(
     sheet: &mut ClosedSheet,
     first: u8,
     second: u8,
-    calls: &[Call],
-    i: usize,
+    calls: &'c [Call],
     answers: &mut Vec<Answer>,
-) -> Result<Turn, AllocError>
+) -> Result<ControlFlow<Stop, &'c [Call]>, AllocError>
     ensures kept { SameBook sheet.new sheet.old }
-    ensures turns { IfOk result (λ t. Turned i calls.now (after (closed_book sheet.old) (Try first second)) answers.old.items i (closed_book sheet.old) answers.new.items t) }
+    ensures turns { IfOk result (λ t. Turned (length calls.now) calls.now (after (closed_book sheet.old) (Try first second)) answers.old.items (closed_book sheet.old) answers.new.items t) }
 {
     let trial = Trial::new(sheet, first, second);
-    trial_turn(&trial, calls, i, answers)
+    trial_turn(&trial, calls, answers)
 }
 
-// One call on a closed sheet, or a whole trial.
-fn closed_turn(
+// One call on a closed sheet, or a whole trial. Tells the calls that are left.
+fn closed_turn<'c>(
     sheet: &mut ClosedSheet,
-    calls: &[Call],
-    i: usize,
+    call: Call,
+    rest: &'c [Call],
     answers: &mut Vec<Answer>,
-) -> Result<Turn, AllocError>
-    requires { i < length calls.now }
-    ensures { IfOk result (λ t. Turned (i + 1) calls.now (closed_book sheet.old) answers.old.items i (closed_book sheet.new) answers.new.items t) }
+) -> Result<ControlFlow<Stop, &'c [Call]>, AllocError>
+    ensures { IfOk result (λ t. Turned (length rest.now) (call ∷ rest.now) (closed_book sheet.old) answers.old.items (closed_book sheet.new) answers.new.items t) }
 {
-    match calls[i] {
+    match call {
         Call::Lay(edge, first, second) => {
-            answers.push(done(lay(sheet, edge, first, second)))?;
-            Ok(Turn::Next(i + 1))
+            answers.push(sheet.lay(edge, first, second).map(|()| None))?;
+            Ok(ControlFlow::Continue(rest))
         }
         Call::Try(first, second) => {
-            answers.push(done(sheet.check_order(first, second)))?;
-            under_trial(sheet, first, second, calls, i + 1, answers)
+            answers.push(sheet.check_order(first, second).map(|()| None))?;
+            under_trial(sheet, first, second, rest, answers)
         }
-        _ => Ok(Turn::Stop(false, None)),
+        _ => Ok(ControlFlow::Break(Stop::OUT_OF_PLACE)),
     }
 }
 
-// Tells whether the calls stopped at the end of the list, and the trial that stood.
+// Tells where the calls stopped.
 pub(crate) fn run_closed(
     sheet: &mut ClosedSheet,
     calls: &[Call],
-    from: usize,
     answers: &mut Vec<Answer>,
-) -> Result<(bool, Option<Standing>), AllocError>
-    ensures { IfOk result (λ s. Stopped calls.now (closed_book sheet.old) answers.old.items from (closed_book sheet.new) answers.new.items s.0 s.1) }
+) -> Result<Stop, AllocError>
+    ensures { IfOk result (λ s. Stopped calls.now (closed_book sheet.old) answers.old.items (closed_book sheet.new) answers.new.items s) }
 {
-    let mut i = from;
-    while i < calls.len() {
-        match closed_turn(sheet, calls, i, answers)? {
-            Turn::Next(n) => i = n,
-            Turn::Stop(whole, standing) => return Ok((whole, standing)),
+    let mut left = calls;
+    while let Some((call, rest)) = left.split_first() {
+        match closed_turn(sheet, *call, rest, answers)? {
+            ControlFlow::Continue(calls) => left = calls,
+            ControlFlow::Break(stop) => return Ok(stop),
         }
     }
-    Ok((true, None))
+    Ok(Stop::AT_END)
 }

@@ -5,17 +5,15 @@ pub mod answers;
 mod closing;
 mod opening;
 pub mod outcome;
-mod turns;
 
 ghost use Rattle.std.specs.Prelude.{◌≡◌, IfOk};
 ghost use Rattle.sheet.specs.Book.{blank, ended};
 ghost use Rattle.replay.specs.Runs.{run};
 ghost use Rattle.replay.specs.Outcomes.{outcome_run, stage_book, stood};
 
-use crate::answers::Answer;
 use crate::closing::run_closed;
 use crate::opening::run_open;
-use crate::outcome::{Outcome, Stage};
+use crate::outcome::{Outcome, Stage, Stop};
 use sheet::calls::Call;
 use sheet::open::OpenSheet;
 use std::alloc::{AllocError, Global};
@@ -28,32 +26,29 @@ pub fn replay(heap: Global, calls: &[Call]) -> Result<Outcome, AllocError>
 {
     let mut answers = Vec::new(heap);
     let mut sheet = OpenSheet::new();
-    let n = run_open(&mut sheet, calls, &mut answers)?;
-    if n >= calls.len() {
+    let rest = run_open(&mut sheet, calls, &mut answers)?;
+    let Some((call, rest)) = rest.split_first() else {
         return Ok(Outcome {
             stage: Stage::Unclosed(sheet),
-            standing: None,
+            stop: Stop::AT_END,
             answers,
-            whole: true,
         });
-    }
-    match calls[n] {
+    };
+    match call {
         Call::Close => {
             let mut closed = sheet.close();
-            answers.push(Answer::Done)?;
-            let (whole, standing) = run_closed(&mut closed, calls, n + 1, &mut answers)?;
+            answers.push(Ok(None))?;
+            let stop = run_closed(&mut closed, rest, &mut answers)?;
             Ok(Outcome {
                 stage: Stage::Closed(closed),
-                standing,
+                stop,
                 answers,
-                whole,
             })
         }
         _ => Ok(Outcome {
             stage: Stage::Unclosed(sheet),
-            standing: None,
+            stop: Stop::OUT_OF_PLACE,
             answers,
-            whole: false,
         }),
     }
 }

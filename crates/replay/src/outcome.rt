@@ -4,7 +4,7 @@ use sheet::closed::ClosedSheet;
 use sheet::edges::Edges;
 use sheet::open::OpenSheet;
 
-// The sheet that a list of calls leaves.
+// The sheet that a list of calls leaves. Neither stage is an error, so this is no `Result`.
 #[derive(Drop)]
 pub enum Stage {
     Unclosed(OpenSheet),
@@ -19,11 +19,31 @@ pub struct Standing {
     pub second: u8,
 }
 
-// The sheet is as before a trial that still stood. Whole if every call stood in its place.
+// Where the calls stopped: whether every call stood in its place, and the trial that still stood.
+#[derive(Clone, Copy)]
+pub struct Stop {
+    pub whole: bool,
+    pub standing: Option<Standing>,
+}
+
+impl Stop {
+    // at the end of the list
+    pub(crate) const AT_END: Stop = Stop {
+        whole: true,
+        standing: None,
+    };
+
+    // at a call out of its place
+    pub(crate) const OUT_OF_PLACE: Stop = Stop {
+        whole: false,
+        standing: None,
+    };
+}
+
+// The sheet is as before a trial that still stood.
 #[derive(Drop)]
 pub struct Outcome {
     pub stage: Stage,
-    pub standing: Option<Standing>,
+    pub stop: Stop,
     pub answers: Vec<Answer>,
-    pub whole: bool,
 }

@@ -2,9 +2,9 @@
 use Rattle.std.specs.Prelude.{ℕ, [], ◌∷◌, slice_index_or}
 use Rattle.relation.specs.Algebra.{Rel, none, plus, ◌∪◌, ◌∩◌, ◌⨾◌}
 use Rattle.relation.specs.Meaning.{holds}
+use Rattle.execution.specs.declared.reading.Coherence.{Coherence}
 use Rattle.execution.specs.Readings.{co_by, fr_by}
 use Rattle.sc.specs.declared.basis.Basis.{Basis}
-use Rattle.sc.specs.declared.basis.Communication.{Communication}
 
 -- under an order, where c is the closure of coherence order
 abbrev pub under : Basis → Rel → Rel → ℕ → Rel
@@ -14,6 +14,6 @@ under b o c i =
 abbrev pub yielded : Basis → Rel → ℕ → Rel
 yielded b o i = under b o (plus (co_by b.reading o)) i
 
-abbrev pub shown : Basis → Communication → ℕ → Rel
+abbrev pub shown : Basis → Coherence → ℕ → Rel
 shown b l i =
     slice_index_or ((holds b.fixed ∪ holds l.co ∪ holds l.fr) ∷ ((holds l.fr ⨾ holds l.co_plus) ∩ holds b.atomic) ∷ []) i none

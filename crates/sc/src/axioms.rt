@@ -6,9 +6,9 @@ ghost use Rattle.sc.specs.Sc.{sc_meaning};
 ghost use Rattle.sc.specs.Prepared.{yielded, shown};
 ghost use Rattle.sc.specs.Laws.{sc_lawful};
 
-use crate::basis::{Basis, Communication};
+use crate::basis::Basis;
 use execution::execution::Execution;
-use execution::reading::{Reading, are_rivals};
+use execution::reading::{Coherence, Reading, are_rivals};
 use model::axiom_kind::AxiomKind;
 use model::interface::MemoryModel;
 use relation::Relation;
@@ -18,14 +18,14 @@ use sheet::closed::ClosedSheet;
 pub struct Sc;
 
 // Axiom 0: program order, read-from, coherence order and from-read.
-fn sequence(b: &Basis, c: &Communication) -> Relation
+fn sequence(b: &Basis, c: &Coherence) -> Relation
     ensures { holds result ≡ holds b.now.fixed ∪ holds c.now.co ∪ holds c.now.fr }
 {
     b.fixed.union(&c.co).union(&c.fr)
 }
 
 // Axiom 1: a write between the two events of an atomic step.
-fn torn(b: &Basis, c: &Communication) -> Relation
+fn torn(b: &Basis, c: &Coherence) -> Relation
     ensures { holds result ≡ (holds c.now.fr ⨾ holds c.now.co_plus) ∩ holds b.now.atomic }
 {
     c.fr.then(&c.co_plus).intersection(&b.atomic)
@@ -34,7 +34,7 @@ fn torn(b: &Basis, c: &Communication) -> Relation
 impl MemoryModel for Sc {
     type Prepared = Basis;
 
-    type Laid = Communication;
+    type Laid = Coherence;
 
     ghost meaning = { λ _. sc_meaning };
 
@@ -67,14 +67,11 @@ impl MemoryModel for Sc {
         }
     }
 
-    fn lay(&self, prepared: &Basis, order: &Relation) -> Communication {
-        let co = prepared.reading.co(order);
-        let co_plus = co.plus();
-        let fr = prepared.reading.fr(&co_plus);
-        Communication { co, co_plus, fr }
+    fn lay(&self, prepared: &Basis, order: &Relation) -> Coherence {
+        prepared.reading.under(order)
     }
 
-    fn relation(&self, prepared: &Basis, laid: &Communication, number: usize) -> Relation {
+    fn relation(&self, prepared: &Basis, laid: &Coherence, number: usize) -> Relation {
         match number {
             0 => sequence(prepared, laid),
             1 => torn(prepared, laid),

@@ -1,4 +1,4 @@
-// What sequential consistency prepares for a sheet, and lays out under an order.
+// What sequential consistency prepares for a sheet.
 use execution::reading::Reading;
 use relation::Relation;
 
@@ -8,11 +8,4 @@ pub struct Basis {
     // program order and read-from
     pub(crate) fixed: Relation,
     pub(crate) atomic: Relation,
-}
-
-#[derive(Clone, Copy)]
-pub struct Communication {
-    pub(crate) co: Relation,
-    pub(crate) co_plus: Relation,
-    pub(crate) fr: Relation,
 }

@@ -1,5 +1,5 @@
 -- What the rows of the table make of a call.
-use Rattle.std.proofs.Common.{◌≡◌, ℕ, ◌<◌, Bool, true, false, cond, List, take, Some, None, Ok, Err, Option, sym, refl, ap, ◌∙◌, arith, length-take}
+use Rattle.std.proofs.Common.{◌≡◌, ℕ, ◌<◌, Bool, true, false, cond, List, length, Some, None, Ok, Err, Option, sym, refl, ap, ◌∙◌, arith}
 use Rattle.std.proofs.lemmas.Bool.{and_parts, ltb-true, true≢false}
 use Rattle.relation.specs.Algebra.{none}
 use Rattle.sheet.specs.declared.row.Event.{Event}
@@ -95,8 +95,7 @@ blank_one_way s q i j h = absurd (no_edge s q _ i j h)
 -- ---- events that there are
 
 -- two events that the sheet knows
-pub known_both : (es : List Event) (n i j : ℕ) → both_known (take n es) i j ≡ true → (i < n) × (j < n)
-known_both es n i j h =
-    let p = and_parts (known (take n es) i) (known (take n es) j) h in
-    let l = length-take n es in
-    (omega (arith, ltb-true _ _ p.0), omega (arith, ltb-true _ _ p.1))
+pub known_both : (es : List Event) (i j : ℕ) → both_known es i j ≡ true → (i < length es) × (j < length es)
+known_both es i j h =
+    let p = and_parts (known es i) (known es j) h in
+    (ltb-true _ _ p.0, ltb-true _ _ p.1)

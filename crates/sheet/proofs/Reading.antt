@@ -1,39 +1,42 @@
 -- What the rules say of rows.
-use Rattle.std.proofs.Common.{◌≡◌, ℕ, zero, suc, ◌+◌, ◌<◌, Bool, true, false, ◌&&◌, List, [], ◌∷◌, ◌++◌, length, get_or, take, Some, None, Option, sym, refl, ap, ◌∙◌, arith}
-use Rattle.std.proofs.lemmas.List.{take_more}
-use Rattle.std.proofs.lemmas.Bool.{and_parts}
+use Rattle.std.proofs.Common.{◌≡◌, ℕ, true, false, Some, None, Ok, Err, Option, Result, sym, refl, ap, ◌∙◌, arith}
+use Rattle.std.specs.Option.{ok_or}
 use Rattle.sheet.specs.declared.words.Kind.{Kind}
 use Rattle.sheet.specs.declared.words.Grade.{Grade}
 use Rattle.sheet.specs.declared.words.Scope.{Scope}
 use Rattle.sheet.specs.declared.words.Proxy.{Proxy}
 use Rattle.sheet.specs.declared.row.Event.{Event}
 use Rattle.sheet.specs.declared.row.Fields.{Fields}
+use Rattle.sheet.specs.declared.calls.Refusal.{Refusal}
+use Rattle.sheet.specs.declared.calls.Refusal.TheVariants.{BadField}
 use Rattle.sheet.specs.Words.{nth, kinds, grades, scopes, proxies}
-use Rattle.sheet.specs.Rules.{bind, every, decoded, keeps, lawful, no_event, or_none, fields_fit, event_of}
+use Rattle.sheet.specs.Rules.{bind, decoded, keeps, lawful, no_event, or_none, fields_fit, event_of}
 
 pub bind_none : {A B : Type 0} (o : Option A) (f : A → Option B) → o ≡ None → bind o f ≡ None
 bind_none None f e = refl
-bind_none (Some x) f e = absurd (let z : ◌≡◌ {A = ℕ} 0 1 = cc in omega arith)
+bind_none (Some x) f e = cc
 
 pub bind_some : {A B : Type 0} (o : Option A) (f : A → Option B) (x : A) → o ≡ Some x → bind o f ≡ f x
-bind_some None f x e = absurd (let z : ◌≡◌ {A = ℕ} 0 1 = cc in omega arith)
+bind_some None f x e = cc
 bind_some (Some y) f x e = let q : y ≡ x = cc in ap f q
 
-pub every_fails : {X : Type 0} (p : X → Bool) (xs : List X) (i : ℕ) (d : X) → i < length xs → p (get_or xs i d) ≡ false → every p xs ≡ false
-every_fails p [] i d h e = absurd (omega arith)
-every_fails p (x ∷ xs) zero d h e = rw e refl
-every_fails p (x ∷ xs) (suc i) d h e = ap (λ t. p x && t) (every_fails p xs i d (omega arith) e) ∙ and_false (p x)
-  where
-    and_false : (t : Bool) → (t && false) ≡ false
-    and_false true = refl
-    and_false false = refl
+-- ---- what was read, and the refusal of a field
 
-pub every_more : {X : Type 0} (p : X → Bool) (xs : List X) (i : ℕ) (d : X) → every p (take i xs) ≡ true → i < length xs → p (get_or xs i d) ≡ true → every p (take (i + 1) xs) ≡ true
-every_more p xs i d h l e = rw (take_more xs i d l) (push p (take i xs) (get_or xs i d) h e)
-  where
-    push : {X : Type 0} (p : X → Bool) (ys : List X) (y : X) → every p ys ≡ true → p y ≡ true → every p (ys ++ y ∷ []) ≡ true
-    push p [] y h e = rw e refl
-    push p (z ∷ zs) y h e = let q = and_parts (p z) (every p zs) h in rw q.0 (push p zs y q.1 e)
+pub read_none : {A : Type 0} (o : Option A) (y : Refusal) → Err y ≡ ok_or o BadField → (o ≡ None) × (y ≡ BadField)
+read_none None y e = (refl, cc)
+read_none (Some x) y e = cc
+
+pub read_some : {A : Type 0} (o : Option A) (x : A) → Ok x ≡ ok_or o BadField → o ≡ Some x
+read_some None x e = cc
+read_some (Some y) x e = cc
+
+-- one word after another
+module _ {A B : Type 0} (o : Option A) (f : A → Option B) where
+  pub stops : (y : Refusal) → Err y ≡ ok_or o BadField → Err y ≡ ok_or (bind o f) BadField
+  stops y e = let q = read_none o y e in ap Err q.1 ∙ ap (λ t. ok_or t BadField) (sym (bind_none o f q.0))
+
+  pub goes_on : (x : A) (r : Result B Refusal) → Ok x ≡ ok_or o BadField → r ≡ ok_or (f x) BadField → r ≡ ok_or (bind o f) BadField
+  goes_on x r e h = h ∙ ap (λ t. ok_or t BadField) (sym (bind_some o f x (read_some o x e)))
 
 -- ---- fields
 

@@ -1,5 +1,7 @@
 -- What a trial makes of the book, and its end.
 use Rattle.std.proofs.Common.{◌≡◌, ℕ, true, false, Some, None, Ok, Err, Option, Result, sym, refl, ap, ◌∙◌}
+use Rattle.std.specs.Bool.{then_some}
+use Rattle.std.specs.Result.{is_ok}
 use Rattle.std.proofs.lemmas.Bool.{or_parts}
 use Rattle.sheet.specs.declared.calls.Edge.TheVariants.{Order}
 use Rattle.sheet.specs.declared.calls.Refusal.{Refusal}
@@ -24,7 +26,7 @@ refused_alike b i j = refl
 
 module _ (s t : ClosedSheet) (i j : ℕ) (o : Option (ℕ × ℕ)) (r : Result (Unit {0}) Refusal)
     (answers : r ≡ given (refusal (closed_book s) (Lay Order i j)) tt) (book : closed_book t ≡ after (closed_book s) (Lay Order i j)) where
-  pub tried : (u : Unit {0}) → r ≡ Ok u → o ≡ Some (i, j) → standing (closed_book t) o ≡ after (closed_book s) (Try i j)
+  tried : (u : Unit {0}) → r ≡ Ok u → o ≡ Some (i, j) → standing (closed_book t) o ≡ after (closed_book s) (Try i j)
   unfolding accepted
   tried u e f =
       let b = closed_book s in
@@ -32,12 +34,20 @@ module _ (s t : ClosedSheet) (i j : ℕ) (o : Option (ℕ × ℕ)) (r : Result (
       ap (λ (c : Book). standing c o) (book ∙ sym (accepts b (Lay Order i j) (tt {0}) n).1)
       ∙ ap (standing (accepted b (Lay Order i j))) f ∙ (accepts b (Try i j) (tt {0}) (refused_alike b i j ∙ n)).1
 
-  pub untried : (e : Refusal) → r ≡ Err e → o ≡ None → standing (closed_book t) o ≡ after (closed_book s) (Try i j)
+  untried : (e : Refusal) → r ≡ Err e → o ≡ None → standing (closed_book t) o ≡ after (closed_book s) (Try i j)
   untried e q f =
       let b = closed_book s in
       let n : refusal b (Lay Order i j) ≡ Some e = given_some (refusal b (Lay Order i j)) (tt {0}) e (sym q ∙ answers) in
       ap (λ (c : Book). standing c o) (book ∙ sym (refuses b (Lay Order i j) e (tt {0}) n).1)
       ∙ ap (standing b) f ∙ (refuses b (Try i j) e (tt {0}) (refused_alike b i j ∙ n)).1
+
+  -- the trial stands where the order is accepted
+  pub stands : o ≡ then_some (is_ok r) (i, j) → standing (closed_book t) o ≡ after (closed_book s) (Try i j)
+  stands e = go r refl
+    where
+      go : (q : Result (Unit {0}) Refusal) → r ≡ q → standing (closed_book t) o ≡ after (closed_book s) (Try i j)
+      go (Ok u) p = tried u p (e ∙ ap (λ (z : Result (Unit {0}) Refusal). then_some (is_ok z) (i, j)) p)
+      go (Err y) p = untried y p (e ∙ ap (λ (z : Result (Unit {0}) Refusal). then_some (is_ok z) (i, j)) p)
 
 -- ---- the end of a trial
 

@@ -3,6 +3,7 @@ pub mod Refusals
 pub mod Rules
 pub mod Fitting
 pub mod Sets
+pub mod Lending
 pub mod Book
 pub mod Sheets
 pub mod Trials

@@ -1,5 +1,6 @@
 -- Which rows and which edges a sheet may have. Assumes nothing.
-use Rattle.std.specs.Prelude.{ℕ, Bool, true, false, not, ◌&&◌, ◌||◌, List, [], ◌∷◌, Some, None, Option, ◌==◌, nat_lt, slice_index_or}
+use Rattle.std.specs.Prelude.{ℕ, Bool, true, false, not, ◌&&◌, ◌||◌, List, Some, None, Option, ◌==◌, nat_lt, slice_index_or}
+use Rattle.std.specs.List.{list_all}
 use Rattle.relation.specs.Algebra.{some_below}
 use Rattle.sheet.specs.declared.words.Kind.{Kind}
 use Rattle.sheet.specs.declared.words.Kind.TheVariants.{Read, Write, MemoryFence, ProxyFence}
@@ -20,8 +21,7 @@ use Rattle.sheet.specs.Words.{nth, kinds, grades, scopes, proxies}
 
 -- whether each element passes
 abbrev pub every : {A : Type 0} → (A → Bool) → List A → Bool
-every p [] = true
-every p (x ∷ xs) = p x && every p xs
+every p xs = list_all p xs
 
 -- a block lies on one device
 abbrev pub agrees : ℕ → ℕ → Thread → Bool

@@ -1,5 +1,5 @@
 -- The words of events and their codes. Assumes nothing.
-use Rattle.std.specs.Prelude.{ℕ, zero, suc, List, [], ◌∷◌, Some, None, Option}
+use Rattle.std.specs.Prelude.{ℕ, List, [], ◌∷◌, Option, slice_get}
 use Rattle.sheet.specs.declared.words.Kind.{Kind}
 use Rattle.sheet.specs.declared.words.Kind.TheVariants.{Read, Write, MemoryFence, ProxyFence}
 use Rattle.sheet.specs.declared.words.Grade.{Grade}
@@ -11,9 +11,7 @@ use Rattle.sheet.specs.declared.words.Proxy.TheVariants.{Generic, Constant, Text
 
 -- what stands at place n of a list
 abbrev pub nth : {A : Type 0} → List A → ℕ → Option A
-nth [] n = None
-nth (x ∷ xs) zero = Some x
-nth (x ∷ xs) (suc n) = nth xs n
+nth xs n = slice_get xs n
 
 -- the words of each sort, in the order of their codes
 abbrev pub kinds : List Kind

@@ -17,40 +17,30 @@ pub enum Edge {
 #[derive(Clone, Copy, PartialEq, Eq, Debug)]
 pub enum Refusal {
     // a thread, an event or a completion that is named does not exist
-    Absent,
+    Absent = 1,
     // the sheet has 16 threads, or 64 events
-    Full,
+    Full = 2,
     // a field breaks a rule
-    BadField,
+    BadField = 3,
     // the two events cannot carry this edge
-    CannotCarry,
+    CannotCarry = 4,
     // source and read differ in value
-    ValuesDiffer,
+    ValuesDiffer = 5,
     // the edge is there, the order is given the other way, or the read has a source
-    Given,
+    Given = 6,
     // more than 12 pairs are open
-    TooManyOpen,
+    TooManyOpen = 7,
     // a read without a source has a value other than 0
-    Unsourced,
+    Unsourced = 8,
     // the caller's memory is too short
-    Memory,
+    Memory = 9,
 }
 
-impl Refusal {
-    pub fn number(self) -> u8
-        ensures { result ≡ printed self }
-    {
-        match self {
-            Refusal::Absent => 1,
-            Refusal::Full => 2,
-            Refusal::BadField => 3,
-            Refusal::CannotCarry => 4,
-            Refusal::ValuesDiffer => 5,
-            Refusal::Given => 6,
-            Refusal::TooManyOpen => 7,
-            Refusal::Unsourced => 8,
-            Refusal::Memory => 9,
-        }
+impl From<Refusal> for u8 {
+    ghost from_gives = { λ r n. n ≡ printed r };
+
+    fn from(refusal: Refusal) -> u8 {
+        refusal as u8
     }
 }
 

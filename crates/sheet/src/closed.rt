@@ -1,5 +1,5 @@
 // A sheet with its threads and events fixed, which takes edges.
-ghost use Rattle.std.specs.Prelude.{◌≡◌, ℕ, take};
+ghost use Rattle.std.specs.Prelude.{take};
 ghost use Rattle.sheet.specs.Sets.{laid};
 ghost use Rattle.sheet.specs.Fitting.{EdgesFit, OneSource, OneWay};
 

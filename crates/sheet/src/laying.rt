@@ -1,5 +1,5 @@
 // Edges laid on a closed sheet.
-ghost use Rattle.std.specs.Prelude.{◌≡◌, ◌<◌, not};
+ghost use Rattle.std.specs.Prelude.{◌≡◌, ◌<◌, length};
 ghost use Rattle.sheet.specs.Book.{after, both_known, given, refusal};
 ghost use Rattle.sheet.specs.Rules.{carries, values_differ};
 ghost use Rattle.sheet.specs.Sets.{laid};
@@ -13,6 +13,7 @@ use crate::edges::Edges;
 use crate::row::{Event, Thread};
 use crate::rules::{can_depend, can_join, can_order, can_read_from, is_next};
 
+// The sort of an edge and its two events stand apart: each caller has them so, and a struct would be taken apart at once.
 impl ClosedSheet {
     pub fn threads(&self) -> &[Thread]
         ensures { result.now ≡ (closed_book self.now).threads }
@@ -36,38 +37,37 @@ impl ClosedSheet {
     fn both_known(&self, first: u8, second: u8) -> bool
         ensures { result ≡ both_known (closed_book self.now).events first second }
     {
-        let n = self.rows.event_count;
+        let n = self.events().len();
         (first as usize) < n && (second as usize) < n
     }
 
     // Whether the two events can carry the edge, values apart.
+    #[tactic(auto, unfolding(crate::specs::Rules::carries))]
     fn can_carry(&self, edge: Edge, first: u8, second: u8) -> bool
-        requires { (first < self.now.rows.event_count) × (second < self.now.rows.event_count) }
+        requires { (first < length (closed_book self.now).events) × (second < length (closed_book self.now).events) }
         ensures { result ≡ carries (closed_book self.now).events edge first second }
     {
+        let events = self.events();
         let i = first as usize;
         let j = second as usize;
-        let e = self.rows.events[i];
-        let f = self.rows.events[j];
+        let e = events[i];
+        let f = events[j];
         match edge {
             Edge::ReadFrom => can_read_from(e, f),
             Edge::Order => i != j && can_order(e, f),
-            Edge::Atomic => can_join(e, f)
-                && is_next(&self.rows.events[0..self.rows.event_count], i, j),
+            Edge::Atomic => can_join(e, f) && is_next(events, i, j),
             Edge::Depend => can_depend(e, f) && i < j,
         }
     }
 
     // Whether source and read differ in value.
+    #[tactic(auto, unfolding(crate::specs::Rules::values_differ))]
     fn differs(&self, edge: Edge, first: u8, second: u8) -> bool
-        requires { (first < self.now.rows.event_count) × (second < self.now.rows.event_count) }
+        requires { (first < length (closed_book self.now).events) × (second < length (closed_book self.now).events) }
         ensures { result ≡ values_differ (closed_book self.now).events edge first second }
     {
-        match edge {
-            Edge::ReadFrom => self.rows.events[first as usize].value
-                != self.rows.events[second as usize].value,
-            _ => false,
-        }
+        let events = self.events();
+        edge == Edge::ReadFrom && events[first as usize].value != events[second as usize].value
     }
 }
 
@@ -91,7 +91,8 @@ impl ClosedSheet {
         Ok(())
     }
 
-    fn lay(&mut self, edge: Edge, first: u8, second: u8) -> Result<(), Refusal>
+    // Lays the edge, if it may be laid.
+    pub fn lay(&mut self, edge: Edge, first: u8, second: u8) -> Result<(), Refusal>
         ensures answers { result ≡ given (refusal (closed_book self.old) (Lay edge first second)) tt }
         ensures book { closed_book self.new ≡ after (closed_book self.old) (Lay edge first second) }
     {

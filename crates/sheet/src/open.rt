@@ -8,9 +8,8 @@ use crate::calls::Refusal;
 use crate::closed::ClosedSheet;
 use crate::edges::Edges;
 use crate::row::{Event, Fields, Thread};
-use crate::rules::{decode, is_lawful, thread_fits};
+use crate::rules::{is_lawful, thread_fits};
 use crate::tables::{EVENTS, Rows, THREADS};
-use crate::words::{Grade, Kind, Proxy, Scope};
 
 #[derive(Drop)]
 pub struct OpenSheet {
@@ -21,23 +20,11 @@ impl OpenSheet {
     pub fn new() -> OpenSheet
         ensures { open_book result ≡ blank }
     {
-        let event = Event {
-            thread: 0,
-            kind: Kind::Read,
-            grade: Grade::Weak,
-            scope: Scope::Thread,
-            proxy: Proxy::Generic,
-            address: 0,
-            value: 0,
-        };
         OpenSheet {
             rows: Rows {
-                threads: [Thread {
-                    block: 0,
-                    device: 0,
-                }; 16],
+                threads: [Thread::default(); THREADS],
                 thread_count: 0,
-                events: [event; 64],
+                events: [Event::default(); EVENTS],
                 event_count: 0,
             },
         }
@@ -72,9 +59,7 @@ impl OpenSheet {
         if n >= EVENTS {
             return Err(Refusal::Full);
         }
-        let Some(event) = decode(fields) else {
-            return Err(Refusal::BadField);
-        };
+        let event = Event::try_from(fields)?;
         if !is_lawful(event) {
             return Err(Refusal::BadField);
         }

@@ -1,8 +1,8 @@
 // The rules on rows, and on the two events of an edge.
 ghost use Rattle.std.specs.Prelude.{◌≡◌, ◌<◌, length};
-ghost use Rattle.sheet.specs.Rules.{thread_fits, grade_fits, scope_fits, proxy_fits, contents_fit, lawful, decoded, can_read_from, can_order, can_join, can_depend, is_next, is_read, is_write, is_sc_fence, generic, same_scope};
+ghost use Rattle.sheet.specs.Rules.{thread_fits, grade_fits, scope_fits, proxy_fits, contents_fit, lawful, can_read_from, can_order, can_join, can_depend, is_next, is_read, is_write, is_sc_fence};
 
-use crate::row::{Event, Fields, Thread};
+use crate::row::{Event, Thread};
 use crate::words::{Grade, Kind, Proxy, Scope};
 
 const BLOCKS: u8 = 16;
@@ -16,12 +16,9 @@ pub(crate) fn thread_fits(threads: &[Thread], block: u8, device: u8) -> bool
     if block >= BLOCKS || device >= DEVICES {
         return false;
     }
-    for t in threads {
-        if t.block == block && t.device != device {
-            return false;
-        }
-    }
-    true
+    threads
+        .iter()
+        .all(|t| t.block != block || t.device == device)
 }
 
 fn grade_fits(kind: Kind, grade: Grade) -> bool
@@ -40,12 +37,7 @@ fn grade_fits(kind: Kind, grade: Grade) -> bool
 fn scope_fits(grade: Grade, scope: Scope) -> bool
     ensures { result ≡ scope_fits grade scope }
 {
-    match (grade, scope) {
-        (Grade::Weak, Scope::Thread) => true,
-        (Grade::Weak, _) => false,
-        (_, Scope::Thread) => false,
-        _ => true,
-    }
+    (grade == Grade::Weak) == (scope == Scope::Thread)
 }
 
 fn proxy_fits(kind: Kind, grade: Grade, proxy: Proxy) -> bool
@@ -53,8 +45,8 @@ fn proxy_fits(kind: Kind, grade: Grade, proxy: Proxy) -> bool
 {
     match (kind, proxy) {
         (Kind::Read | Kind::Write | Kind::MemoryFence, Proxy::Generic) => true,
-        (Kind::Read, _) => matches!(grade, Grade::Weak),
-        (Kind::Write, Proxy::Surface) => matches!(grade, Grade::Weak),
+        (Kind::Read, _) => grade == Grade::Weak,
+        (Kind::Write, Proxy::Surface) => grade == Grade::Weak,
         (Kind::ProxyFence, Proxy::Constant | Proxy::Texture | Proxy::Surface) => true,
         _ => false,
     }
@@ -69,6 +61,7 @@ fn contents_fit(kind: Kind, address: u16, value: u32) -> bool
     }
 }
 
+#[tactic(auto, unfolding(crate::specs::Rules::lawful))]
 pub(crate) fn is_lawful(e: Event) -> bool
     ensures { result ≡ lawful e }
 {
@@ -78,92 +71,51 @@ pub(crate) fn is_lawful(e: Event) -> bool
         && contents_fit(e.kind, e.address, e.value)
 }
 
-// The event that fields stand for, if each code is one.
-pub(crate) fn decode(f: Fields) -> Option<Event>
-    ensures { result ≡ decoded f }
-{
-    let Some(kind) = Kind::of(f.kind) else {
-        return None;
-    };
-    let Some(grade) = Grade::of(f.grade) else {
-        return None;
-    };
-    let Some(scope) = Scope::of(f.scope) else {
-        return None;
-    };
-    let Some(proxy) = Proxy::of(f.proxy) else {
-        return None;
-    };
-    Some(Event {
-        thread: f.thread,
-        kind,
-        grade,
-        scope,
-        proxy,
-        address: f.address,
-        value: f.value,
-    })
-}
-
 fn is_read(e: Event) -> bool
     ensures { result ≡ is_read e }
 {
-    matches!(e.kind, Kind::Read)
+    e.kind == Kind::Read
 }
 
 fn is_write(e: Event) -> bool
     ensures { result ≡ is_write e }
 {
-    matches!(e.kind, Kind::Write)
+    e.kind == Kind::Write
 }
 
 fn is_sc_fence(e: Event) -> bool
     ensures { result ≡ is_sc_fence e }
 {
-    matches!((e.kind, e.grade), (Kind::MemoryFence, Grade::Sc))
+    e.kind == Kind::MemoryFence && e.grade == Grade::Sc
 }
 
-fn is_generic(proxy: Proxy) -> bool
-    ensures { result ≡ generic proxy }
-{
-    matches!(proxy, Proxy::Generic)
-}
-
-fn is_same_scope(a: Scope, b: Scope) -> bool
-    ensures { result ≡ same_scope a b }
-{
-    match (a, b) {
-        (Scope::Thread, Scope::Thread) => true,
-        (Scope::Block, Scope::Block) => true,
-        (Scope::Device, Scope::Device) => true,
-        (Scope::System, Scope::System) => true,
-        _ => false,
-    }
-}
-
+#[tactic(auto, unfolding(crate::specs::Rules::can_read_from))]
 pub(crate) fn can_read_from(write: Event, read: Event) -> bool
     ensures { result ≡ can_read_from write read }
 {
     is_write(write) && is_read(read) && write.address == read.address
 }
 
+#[tactic(auto, unfolding(crate::specs::Rules::can_order))]
 pub(crate) fn can_order(e: Event, f: Event) -> bool
     ensures { result ≡ can_order e f }
 {
     is_write(e) && is_write(f) && e.address == f.address || is_sc_fence(e) && is_sc_fence(f)
 }
 
+#[tactic(auto, unfolding(crate::specs::Rules::can_join))]
 pub(crate) fn can_join(read: Event, write: Event) -> bool
     ensures { result ≡ can_join read write }
 {
     is_read(read)
         && is_write(write)
         && read.address == write.address
-        && is_generic(read.proxy)
-        && is_generic(write.proxy)
-        && is_same_scope(read.scope, write.scope)
+        && read.proxy == Proxy::Generic
+        && write.proxy == Proxy::Generic
+        && read.scope == write.scope
 }
 
+#[tactic(auto, unfolding(crate::specs::Rules::can_depend))]
 pub(crate) fn can_depend(e: Event, f: Event) -> bool
     ensures { result ≡ can_depend e f }
 {
@@ -175,16 +127,6 @@ pub(crate) fn is_next(events: &[Event], i: usize, j: usize) -> bool
     requires { (i < length events.now) × (j < length events.now) }
     ensures { result ≡ is_next events.now i j }
 {
-    if i >= j {
-        return false;
-    }
-    if events[i].thread != events[j].thread {
-        return false;
-    }
-    for k in 0..j {
-        if i < k && events[i].thread == events[k].thread {
-            return false;
-        }
-    }
-    true
+    let thread = events[i].thread;
+    i < j && thread == events[j].thread && events[i + 1..j].iter().all(|e| e.thread != thread)
 }

@@ -24,10 +24,10 @@ impl<'a> Trial<'a> {
         ensures book { trial_book result ≡ after (closed_book sheet.old) (Try first second) }
         ensures undone { ended (trial_book result) ≡ closed_book sheet.old }
     {
-        let edge = match sheet.order(first, second) {
-            Ok(()) => Some((first, second)),
-            Err(_) => None,
-        };
+        let edge = sheet
+            .order(first, second)
+            .is_ok()
+            .then_some((first, second));
         Trial { sheet, edge }
     }
 

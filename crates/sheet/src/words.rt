@@ -1,42 +1,53 @@
 // The vocabulary of events. Each word has a code: its place in the list of its sort.
 ghost use Rattle.std.specs.Prelude.{◌≡◌};
+ghost use Rattle.std.specs.Option.{ok_or};
 ghost use Rattle.sheet.specs.Words.{nth, kinds, grades, scopes, proxies, kind_code, grade_code, scope_code, proxy_code};
+ghost use Rattle.sheet.specs.declared.calls.Refusal.TheVariants.{BadField};
 
-#[derive(Clone, Copy, PartialEq, Eq, Debug)]
+use crate::calls::Refusal;
+
+// The word that stands at a code's place. An impl is for one type, so each word has its own two conversions.
+fn word<T: Copy>(words: &[T], code: u8) -> Result<T, Refusal>
+    ensures { result ≡ ok_or (nth words.now code) BadField }
+{
+    words
+        .get(usize::from(code))
+        .copied()
+        .ok_or(Refusal::BadField)
+}
+
+#[derive(Clone, Copy, PartialEq, Eq, Debug, Default)]
 pub enum Kind {
+    #[default]
     Read,
     Write,
     MemoryFence,
     ProxyFence,
 }
 
-impl Kind {
-    pub(crate) fn of(code: u8) -> Option<Kind>
-        ensures { result ≡ nth kinds code }
-    {
-        match code {
-            0 => Some(Kind::Read),
-            1 => Some(Kind::Write),
-            2 => Some(Kind::MemoryFence),
-            3 => Some(Kind::ProxyFence),
-            _ => None,
-        }
-    }
+const KINDS: [Kind; 4] = [Kind::Read, Kind::Write, Kind::MemoryFence, Kind::ProxyFence];
 
-    pub fn code(self) -> u8
-        ensures { result ≡ kind_code self }
-    {
-        match self {
-            Kind::Read => 0,
-            Kind::Write => 1,
-            Kind::MemoryFence => 2,
-            Kind::ProxyFence => 3,
-        }
+impl TryFrom<u8> for Kind {
+    type Error = Refusal;
+
+    ghost try_from_gives = { λ n r. r ≡ ok_or (nth kinds n) BadField };
+
+    fn try_from(code: u8) -> Result<Kind, Refusal> {
+        word(&KINDS, code)
     }
 }
 
-#[derive(Clone, Copy, PartialEq, Eq, Debug)]
+impl From<Kind> for u8 {
+    ghost from_gives = { λ k n. n ≡ kind_code k };
+
+    fn from(kind: Kind) -> u8 {
+        kind as u8
+    }
+}
+
+#[derive(Clone, Copy, PartialEq, Eq, Debug, Default)]
 pub enum Grade {
+    #[default]
     Weak,
     Relaxed,
     Acquire,
@@ -46,97 +57,92 @@ pub enum Grade {
     Sc,
 }
 
-impl Grade {
-    pub(crate) fn of(code: u8) -> Option<Grade>
-        ensures { result ≡ nth grades code }
-    {
-        match code {
-            0 => Some(Grade::Weak),
-            1 => Some(Grade::Relaxed),
-            2 => Some(Grade::Acquire),
-            3 => Some(Grade::Release),
-            4 => Some(Grade::AcquireRelease),
-            5 => Some(Grade::Sc),
-            _ => None,
-        }
-    }
+const GRADES: [Grade; 6] = [
+    Grade::Weak,
+    Grade::Relaxed,
+    Grade::Acquire,
+    Grade::Release,
+    Grade::AcquireRelease,
+    Grade::Sc,
+];
 
-    pub fn code(self) -> u8
-        ensures { result ≡ grade_code self }
-    {
-        match self {
-            Grade::Weak => 0,
-            Grade::Relaxed => 1,
-            Grade::Acquire => 2,
-            Grade::Release => 3,
-            Grade::AcquireRelease => 4,
-            Grade::Sc => 5,
-        }
+impl TryFrom<u8> for Grade {
+    type Error = Refusal;
+
+    ghost try_from_gives = { λ n r. r ≡ ok_or (nth grades n) BadField };
+
+    fn try_from(code: u8) -> Result<Grade, Refusal> {
+        word(&GRADES, code)
     }
 }
 
-#[derive(Clone, Copy, PartialEq, Eq, Debug)]
+impl From<Grade> for u8 {
+    ghost from_gives = { λ g n. n ≡ grade_code g };
+
+    fn from(grade: Grade) -> u8 {
+        grade as u8
+    }
+}
+
+#[derive(Clone, Copy, PartialEq, Eq, Debug, Default)]
 pub enum Scope {
+    #[default]
     Thread,
     Block,
     Device,
     System,
 }
 
-impl Scope {
-    pub(crate) fn of(code: u8) -> Option<Scope>
-        ensures { result ≡ nth scopes code }
-    {
-        match code {
-            0 => Some(Scope::Thread),
-            1 => Some(Scope::Block),
-            2 => Some(Scope::Device),
-            3 => Some(Scope::System),
-            _ => None,
-        }
-    }
+const SCOPES: [Scope; 4] = [Scope::Thread, Scope::Block, Scope::Device, Scope::System];
 
-    pub fn code(self) -> u8
-        ensures { result ≡ scope_code self }
-    {
-        match self {
-            Scope::Thread => 0,
-            Scope::Block => 1,
-            Scope::Device => 2,
-            Scope::System => 3,
-        }
+impl TryFrom<u8> for Scope {
+    type Error = Refusal;
+
+    ghost try_from_gives = { λ n r. r ≡ ok_or (nth scopes n) BadField };
+
+    fn try_from(code: u8) -> Result<Scope, Refusal> {
+        word(&SCOPES, code)
     }
 }
 
-#[derive(Clone, Copy, PartialEq, Eq, Debug)]
+impl From<Scope> for u8 {
+    ghost from_gives = { λ s n. n ≡ scope_code s };
+
+    fn from(scope: Scope) -> u8 {
+        scope as u8
+    }
+}
+
+#[derive(Clone, Copy, PartialEq, Eq, Debug, Default)]
 pub enum Proxy {
+    #[default]
     Generic,
     Constant,
     Texture,
     Surface,
 }
 
-impl Proxy {
-    pub(crate) fn of(code: u8) -> Option<Proxy>
-        ensures { result ≡ nth proxies code }
-    {
-        match code {
-            0 => Some(Proxy::Generic),
-            1 => Some(Proxy::Constant),
-            2 => Some(Proxy::Texture),
-            3 => Some(Proxy::Surface),
-            _ => None,
-        }
-    }
+const PROXIES: [Proxy; 4] = [
+    Proxy::Generic,
+    Proxy::Constant,
+    Proxy::Texture,
+    Proxy::Surface,
+];
 
-    pub fn code(self) -> u8
-        ensures { result ≡ proxy_code self }
-    {
-        match self {
-            Proxy::Generic => 0,
-            Proxy::Constant => 1,
-            Proxy::Texture => 2,
-            Proxy::Surface => 3,
-        }
+impl TryFrom<u8> for Proxy {
+    type Error = Refusal;
+
+    ghost try_from_gives = { λ n r. r ≡ ok_or (nth proxies n) BadField };
+
+    fn try_from(code: u8) -> Result<Proxy, Refusal> {
+        word(&PROXIES, code)
+    }
+}
+
+impl From<Proxy> for u8 {
+    ghost from_gives = { λ p n. n ≡ proxy_code p };
+
+    fn from(proxy: Proxy) -> u8 {
+        proxy as u8
     }
 }

@@ -6,20 +6,17 @@ use casefile::fault::Fault;
 use records::survey::Tally;
 use std::fmt;
 
+// What a whole file has, or its first fault.
 #[derive(Clone, Copy)]
-pub enum Line {
-    // what a whole file has
-    Whole(Tally),
-    Broken(Fault),
-}
+pub struct Line(pub Result<Tally, Fault>);
 
 impl fmt::Display for Line {
-    ghost output = { λ l. Some (line_text l) };
+    ghost output = { λ line. Some (line_text line.0) };
 
     fn fmt<W: fmt::Write>(&self, f: &mut fmt::Formatter<W>) -> fmt::Result {
-        match self {
-            Line::Whole(tally) => write!(f, "{tally}"),
-            Line::Broken(fault) => write!(f, "{fault}"),
+        match self.0 {
+            Ok(tally) => write!(f, "{tally}"),
+            Err(fault) => write!(f, "{fault}"),
         }
     }
 }

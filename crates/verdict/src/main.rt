@@ -10,36 +10,31 @@ use casefile::fault::{Cause, Fault};
 use casefile::input::read;
 use line::Line;
 use records::fault::Cause as RecordCause;
-use records::survey::survey;
+use records::survey::{Tally, survey};
 use std::io;
 use std::io::Read;
 
 // The longest input that is taken.
 const LIMIT: usize = 32768;
 
-// The line that the bytes of an input are answered.
-fn answer(input: &[u8]) -> Line
+// What the bytes of an input are answered.
+fn answer(input: &[u8]) -> Result<Tally, Fault>
     ensures { Answers input.now result }
 {
     if input.len() > LIMIT {
-        return Line::Broken(Fault {
+        return Err(Fault {
             cause: Cause::Framing(RecordCause::Oversize),
             place: LIMIT,
         });
     }
-    if let Err(fault) = read(input) {
-        return Line::Broken(fault);
-    }
-    match survey(input) {
-        Ok(tally) => Line::Whole(tally),
-        Err(fault) => Line::Broken(Fault::from(fault)),
-    }
+    read(input)?;
+    Ok(survey(input)?)
 }
 
 fn main(rt: HostRuntime) -> io::Result<()> {
     let mut input = Vec::new(rt.alloc());
     // One byte more than is taken, to see that there is one.
     rt.stdin().take(LIMIT as u64 + 1).read_to_end(&mut input)?;
-    let line = answer(input.as_slice());
+    let line = Line(answer(input.as_slice()));
     println!(rt; "{line}")
 }

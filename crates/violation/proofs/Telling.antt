@@ -3,11 +3,10 @@ use Rattle.std.proofs.Common.{◌≡◌, ℕ, ◌<◌, ◌≤◌, Bool, true, fa
 use Rattle.std.proofs.lemmas.Bool.{cases_lt, false≢true}
 use Rattle.relation.specs.Algebra.{Rel}
 use Rattle.relation.specs.Reading.{LowestLoop as LoopFound, LowestPair as PairFound}
-use Rattle.cycles.specs.Cycles.{NotAfter, Witness as CycleWitness, Answered as CycleAnswered}
+use Rattle.cycles.specs.Cycles.{NotAfter, Witness as CycleWitness}
 use Rattle.cycles.proofs.Reading.{both_ways, stepwise}
-use Rattle.model.specs.declared.axiom_kind.AxiomKind.{AxiomKind}
 use Rattle.model.specs.declared.axiom_kind.AxiomKind.TheVariants.{Acyclic, Irreflexive, Empty}
-use Rattle.violation.specs.Violations.{Loop, Related, Breaks, Witness, Shown, Answered, Unique, LowestLoop, LowestPair, SpelledOut}
+use Rattle.violation.specs.Violations.{Loop, Related, Breaks, Witness, Shown, Unique, LowestLoop, LowestPair, SpelledOut}
 
 pub unique : Unique
 unique k R v w p q =
@@ -31,10 +30,6 @@ of_cycle R ws p =
       shortest = p.shortest.least;
       first = λ vs c e. p.first vs (record { cycle = c; least = λ us u. let a = p.shortest.least us u in omega arith });
     }
-
-pub cycle_answered : (R : Rel) (before after : List ℕ) (o : Option ℕ) → CycleAnswered R before after o → Answered Acyclic R before after o
-cycle_answered R before after None h = (λ b. h.0 b.0 b.1, h.1)
-cycle_answered R before after (Some l) h = record { few = h.few; witness = of_cycle R (take l after) h.witness; rest = h.rest }
 
 -- ---- loops
 
@@ -154,6 +149,3 @@ pub pair_shown : (R : Rel) (m : List ℕ) (a b : ℕ) → 1 < length m → PairF
 pair_shown R m a b l h =
     let t = take_two m a b l in
     record { few = omega arith; witness = subst (Witness Empty R) (sym t.0) (of_pair R (a ∷ (b ∷ [])) h); rest = t.1 }
-
-pub of_kind : {k l : AxiomKind} (R : Rel) (before after : List ℕ) (o : Option ℕ) → k ≡ l → Answered l R before after o → Answered k R before after o
-of_kind R before after o e h = subst (λ (j : AxiomKind). Answered j R before after o) (sym e) h

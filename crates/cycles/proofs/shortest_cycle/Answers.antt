@@ -1,51 +1,42 @@
-use Rattle.std.proofs.Common.{◌<◌, ◌≤◌, refl, arith}
+use Rattle.std.proofs.Common.{◌≡◌, ℕ, ◌≤◌, Some, refl, subst, arith}
 use Rattle.relation.specs.Meaning.{holds}
-use Rattle.cycles.specs.Counts.{apart}
+use Rattle.cycles.specs.Cycles.{Shown}
+use Rattle.cycles.specs.Counts.{apart, Shorter, Found}
 use Rattle.cycles.proofs.Reading.{unique, stepwise}
 use Rattle.cycles.proofs.Tables.{holds_inside, cycles_are_chains}
-use Rattle.cycles.proofs.Walking.{start_found, witnessed, no_cycle, same_behind}
+use Rattle.cycles.proofs.Walking.{few, witnessed, no_cycle, same_behind}
 use Rattle.cycles.proofs.shortest_cycle.Goals as goal
 
-pub returns-then-len-ge-TOO_LONG : goal.returns-then-len-ge-TOO_LONG
-returns-then-len-ge-TOO_LONG c =
+pub returns-in_err-len : goal.returns-in_err-len
+returns-in_err-len c =
+    let R = holds c.args.r.now in
+    let none = no_cycle R (holds_inside c.args.r.now) (apart c.of-distances.result) c.of-distances.ensures c.in_err-len.ensures in
     record {
-      witness = (
-        no_cycle (holds c.args.r.now) (holds_inside c.args.r.now) (apart c.count_steps.new.steps) c.count_steps.ensures
-            c.shortest_length-len.result c.shortest_length-len.ensures (omega arith),
-        refl,
-      );
+      witness = rw c.from_residual.ensures (none, refl);
       unique = unique;
       stepwise = stepwise;
       chains = cycles_are_chains;
-    }
-
-pub walk-requires : goal.walk-requires
-walk-requires c =
-    let b : c.lowest_start-start.result < 64 =
-    start_found (holds c.args.r.now) (holds_inside c.args.r.now) (apart c.count_steps.new.steps) c.count_steps.ensures
-    c.shortest_length-len.result c.lowest_start-start.result c.shortest_length-len.ensures (omega arith) c.lowest_start-start.ensures in
-    record {
-      room = (omega arith, (omega arith, (b, omega arith)));
-      counted = c.count_steps.ensures;
-      closes = c.lowest_start-start.ensures.passes b;
     }
 
 pub returns : goal.returns
 returns c =
     let R = holds c.args.r.now in
     let i = holds_inside c.args.r.now in
-    let D = apart c.count_steps.new.steps in
-    let l = c.shortest_length-len in
-    let h = c.lowest_start-start in
-    let few : l.result ≤ 64 = omega arith in
-    let b : h.result < 64 = start_found R i D c.count_steps.ensures l.result h.result l.ensures few h.ensures in
+    let D = apart c.of-distances.result in
+    let l = c.in_ok-len.len in
+    let P : ℕ → Type 0 = λ i. D i i ≡ Some l in
+    let least : Shorter D (Some l) = c.in_ok-len.ensures in
+    let start = subst (Found P) c.unwrap-start.ensures c.lowest_start.ensures in
+    let size : l ≤ 64 = few R i D c.of-distances.ensures l least in
+    let shown : Shown R c.args.memory.now c.walk.new.memory l =
     record {
-      witness = record {
-        few = few;
-        witness = witnessed R i D c.count_steps.ensures l.result c.args.memory.now c.walk.new.memory h.result
-            b few (omega arith) l.ensures h.ensures c.walk.ensures;
-        rest = same_behind l.result c.walk.new.memory c.args.memory.now c.walk.ensures.long c.walk.ensures.rest;
-      };
+      few = size;
+      witness = witnessed R i D c.of-distances.ensures l c.args.memory.now c.walk.new.memory c.unwrap-start.result
+          start.0 start.1 (omega arith) least start.2 c.walk.ensures;
+      rest = same_behind l c.walk.new.memory c.args.memory.now c.walk.ensures.long c.walk.ensures.rest;
+    } in
+    record {
+      witness = rw c.from.ensures shown;
       unique = unique;
       stepwise = stepwise;
       chains = cycles_are_chains;

@@ -1,11 +1,9 @@
-use Rattle.std.proofs.Common.{ap, ◌∙◌, arith}
+use Rattle.std.proofs.Common.{rules, min, arith}
 use Rattle.relation.specs.Algebra.{cut}
-use Rattle.relation.proofs.Relations.{holds_by, cut_past}
+use Rattle.relation.proofs.Relations.{cut_starts}
 use Rattle.relation.proofs.tabulate.Goals as goal
 
 pub returns : goal.returns
 returns g c =
     let p = g.P.Pairs.relates c.args.p.now in
-    holds_by _ (cut c.if-n-lt-EVENTS.events p) (λ i l. c.loop-i.invariant.2 i (omega arith))
-    (λ i l. cut_past c.if-n-lt-EVENTS.events p i (omega (arith, c.loop-i.invariant.0)))
-    ∙ ap (λ n. cut n p) c.loop-i.invariant.0
+    c.by_rows.ensures (cut (min c.args.n 64) p) (λ i row l h. search rules) (cut_starts p (min c.args.n 64) (omega arith))

@@ -1,10 +1,9 @@
-use Rattle.std.proofs.Common.{◌+◌, ◌-◌, length}
 use Rattle.sheet.specs.Sheets.{closed_book}
-use Rattle.casefile.proofs.Reading.{Waiting, waits}
+use Rattle.casefile.proofs.Reading.{Waiting, left}
 use Rattle.casefile.proofs.input.read.Given as goal
 
 abbrev pub invariant-loop-next : goal.invariant-loop-next
 invariant-loop-next l = Waiting l.file l.reader l.next (closed_book l.sheet)
 
 abbrev pub decreases-loop-next : goal.decreases-loop-next
-decreases-loop-next l = length l.file - l.reader.at + waits l.next
+decreases-loop-next l = left l.next l.reader

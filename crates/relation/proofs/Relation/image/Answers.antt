@@ -1,17 +1,12 @@
-use Rattle.std.proofs.Common.{ap, ◌∙◌, arith}
-use Rattle.relation.specs.Algebra.{image_below}
+use Rattle.std.proofs.Common.{rules, ◌∙◌}
+use Rattle.relation.specs.Algebra.{◌◁◌}
 use Rattle.relation.specs.Meaning.{members, holds}
-use Rattle.relation.proofs.Below.{image_none, image_more}
+use Rattle.relation.proofs.Relations.{from_row, image_range}
 use Rattle.relation.proofs.Readings.{image_says}
 use Rattle.relation.proofs.Relation.image.Goals as goal
 
-pub loop-k-init : goal.loop-k-init
-loop-k-init c = c.empty-all.ensures ∙ image_none (members c.args.set) (holds c.args.self.now)
-
-pub loop-k-preserved : goal.loop-k-preserved
-loop-k-preserved c = cc (image_more c.loop-k.k (members c.args.set) (holds c.args.self.now))
-
 pub returns : goal.returns
 returns c =
-    let e = c.loop-k.invariant ∙ ap (λ n. image_below n (members c.args.set) (holds c.args.self.now)) (omega arith) in
+    let s = members c.args.set in
+    let e = c.joined.ensures (s ◁ holds c.args.self.now) (λ i row l h. search (rules, from_row)) ∙ image_range s (holds c.args.self.now) in
     record { is = e; member = image_says c.args.set c.args.self.now _ e }

@@ -1,6 +1,6 @@
-use Rattle.std.proofs.Common.{arith}
-use Rattle.relation.proofs.Relations.{rows_inverse}
+use Rattle.std.proofs.Common.{rules}
+use Rattle.relation.proofs.Relations.{inverse_row, inverse_starts}
 use Rattle.relation.proofs.Relation.inverse.Goals as goal
 
 pub returns : goal.returns
-returns c = rows_inverse _ c.args.self.now (λ i l. c.loop-j.invariant.1 i (omega arith))
+returns c = c.by_rows.ensures _ (λ i row l h. search (rules, inverse_row)) (inverse_starts c.args.self.now)

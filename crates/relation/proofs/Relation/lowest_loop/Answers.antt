@@ -1,18 +1,16 @@
-use Rattle.std.proofs.Common.{sym, arith, rules}
+use Rattle.std.proofs.Common.{◌≡◌, true, false, rules}
+use borrow.Author.Tests.{tests}
+use Rattle.std.proofs.lemmas.Iterator.{first_from_Range}
 use Rattle.relation.specs.Algebra.{lowest_loop}
 use Rattle.relation.specs.Meaning.{holds}
-use Rattle.relation.proofs.Below.{least_is, least_none}
+use Rattle.relation.proofs.Below.{least_first}
 use Rattle.relation.proofs.Readings.{loop_says}
 use Rattle.relation.proofs.Relation.lowest_loop.Goals as goal
-
-pub returns-then-has : goal.returns-then-has
-unfolding lowest_loop
-returns-then-has c =
-    let e = sym (least_is 64 (λ i. holds c.args.self.now i i) c.loop-i.i (omega arith) (search rules) c.loop-i.invariant) in
-    record { is = e; lowest = loop_says c.args.self.now _ e }
 
 pub returns : goal.returns
 unfolding lowest_loop
 returns c =
-    let e = sym (least_none 64 (λ i. holds c.args.self.now i i) (λ i l. c.loop-i.invariant i (omega arith))) in
+    let r = holds c.args.self.now in
+    let first = first_from_Range _ _ _ c.find.result (λ i. r i i ≡ true) (λ i. r i i ≡ false) c.find.ensures.ran (λ x q k. search (rules, tests)) (λ x q k. search (rules, tests)) in
+    let e = least_first 64 (λ i. r i i) c.find.result first in
     record { is = e; lowest = loop_says c.args.self.now _ e }

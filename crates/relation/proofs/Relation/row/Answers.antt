@@ -1,9 +1,6 @@
-use Rattle.std.proofs.Common.{sym, ◌∙◌}
-use Rattle.relation.proofs.Relations.{holds_row, holds_past}
+use Rattle.std.proofs.Common.{rules}
+use Rattle.relation.proofs.Relations.{row_got}
 use Rattle.relation.proofs.Relation.row.Goals as goal
 
-pub returns-then-i-lt-EVENTS : goal.returns-then-i-lt-EVENTS
-returns-then-i-lt-EVENTS c = sym (holds_row c.args.self.now c.args.i c.if-i-lt-EVENTS.true)
-
 pub returns : goal.returns
-returns c = c.empty.ensures ∙ sym (holds_past c.args.self.now c.args.i c.if-i-lt-EVENTS.false)
+returns c = row_got c.args.self.now c.args.i c.get.result c.empty.result _ (search rules) c.get.ensures.lookup c.empty.ensures (search rules)

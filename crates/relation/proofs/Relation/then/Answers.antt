@@ -1,9 +1,11 @@
-use Rattle.std.proofs.Common.{arith}
-use Rattle.relation.proofs.Relations.{rows_then}
+use Rattle.std.proofs.Common.{rules}
+use Rattle.relation.specs.Meaning.{holds}
+use Rattle.relation.specs.Algebra.{◌⨾◌}
+use Rattle.relation.proofs.Relations.{then_row, then_starts}
 use Rattle.relation.proofs.Readings.{then_says}
 use Rattle.relation.proofs.Relation.then.Goals as goal
 
 pub returns : goal.returns
 returns c =
-    let e = rows_then _ c.args.self.now c.args.next.now (λ i l. c.loop-i.invariant.1 i (omega arith)) in
+    let e = c.by_rows.ensures (holds c.args.self.now ⨾ holds c.args.next.now) (λ i row l h. search (rules, then_row)) (then_starts c.args.self.now c.args.next.now) in
     record { is = e; member = then_says c.args.self.now c.args.next.now _ e }

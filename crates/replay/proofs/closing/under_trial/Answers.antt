@@ -21,5 +21,5 @@ returns c =
     let ys = vec_items c.trial_turn.new.answers in
     record {
       kept = back _ c.drop-trial.new.self.0 c.args.sheet.now c.new-trial.result (search rules) c.drop-trial.ensures n.undone;
-      turns = IfOk-weaker c.trial_turn.result _ _ (λ t h. turned_as c.args.i c.args.calls.now xs ys c.args.i t _ _ _ _ n.book n.undone h) c.trial_turn.ensures;
+      turns = IfOk-weaker c.trial_turn.result _ _ (λ t h. turned_as _ c.args.calls.now xs ys t _ _ _ _ n.book n.undone h) c.trial_turn.ensures;
     }

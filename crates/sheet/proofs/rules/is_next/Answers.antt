@@ -1,31 +1,33 @@
-use Rattle.std.proofs.Common.{◌≡◌, true, false, ◌&&◌, ltb, refl, arith}
-use Rattle.std.proofs.lemmas.Bool.{le-ltb, lt-ltb, eq-eqb, ne_eqb, and_from}
-use Rattle.relation.specs.Algebra.{some_below}
-use Rattle.relation.proofs.Below.{some_from, some_none}
-use Rattle.sheet.specs.Rules.{at, is_next, same_thread}
+use Rattle.std.proofs.Common.{◌≡◌, ◌+◌, ◌<◌, ◌≢◌, true, eqb, refl, sym, ◌∙◌, rules, arith}
+use borrow.Author.Tests.{tests}
+use Rattle.std.specs.List.{slice_range}
+use Rattle.std.proofs.lemmas.Bool.{lt-ltb, le-ltb, true≢false}
+use Rattle.std.proofs.lemmas.Iterator.{YieldsList-from_slice, cases_from_all}
+use Rattle.sheet.specs.Rules.{at, is_next}
+use Rattle.sheet.proofs.Between.{none_between}
 use Rattle.sheet.proofs.rules.is_next.Goals as goal
+use Rattle.sheet.proofs.rules.is_next.Goals.{then-i-j, else-i-j}
 
-pub returns-then-i-j : goal.returns-then-i-j
+pub returns-then-thread-events : goal.returns-then-thread-events
 unfolding is_next
-returns-then-i-j c = rw (le-ltb c.args.i c.args.j c.if-i-j.true) refl
-
-pub returns-then-events-i : goal.returns-then-events-i
-unfolding is_next
-returns-then-events-i c = rw (lt-ltb c.args.i c.args.j c.if-i-j.false, ne_eqb _ _ c.if-events-i.true) refl
-
-pub returns-then-events-i-2 : goal.returns-then-events-i-2
-unfolding is_next
-returns-then-events-i-2 c =
+returns-then-thread-events c =
     let es = c.args.events.now in
-    let e : some_below c.args.j (λ k. ltb c.args.i k && same_thread (at es c.args.i) (at es k)) ≡ true =
-    some_from c.args.j (λ k. ltb c.args.i k && same_thread (at es c.args.i) (at es k)) c.loop-k.k c.loop-k-test.true
-    (and_from _ _ (lt-ltb c.args.i c.loop-k.k c.if-i-k.true) (eq-eqb _ _ c.if-events-i-2.true)) in
-    rw (lt-ltb c.args.i c.args.j c.if-i-j.false, eq-eqb _ _ c.if-events-i.false, e) refl
+    let i = c.args.i in
+    let j = c.args.j in
+    let p : (i < j) × (eqb (at es i).thread (at es j).thread ≡ true) =
+    elim c.if-i-j.branch [
+      | then-i-j w ↦ (w.if-i-j.true, sym w.value-is ∙ c.if-thread-events.true)
+      | else-i-j w ↦ absurd (true≢false (sym c.if-thread-events.true ∙ w.value-is ∙ le-ltb i j w.if-i-j.false))
+    ] in
+    rw (lt-ltb i j p.0, p.1)
+    (none_between es i j (omega arith) c.all.result
+    (cases_from_all _ _ _ (λ e. e.thread ≢ (at es i).thread) (λ e. e.thread ≡ (at es i).thread) c.all.ensures.ran (YieldsList-from_slice (slice_range es (i + 1) j) cc)
+    (λ x q k. search (rules, tests)) (λ x q k. search (rules, tests))))
 
-pub returns : goal.returns
+pub returns-else-thread-events : goal.returns-else-thread-events
 unfolding is_next
-returns c =
-    let es = c.args.events.now in
-    let e : some_below c.args.j (λ k. ltb c.args.i k && same_thread (at es c.args.i) (at es k)) ≡ false =
-    some_none c.args.j (λ k. ltb c.args.i k && same_thread (at es c.args.i) (at es k)) (λ m l. c.loop-k.invariant m (omega arith)) in
-    rw (lt-ltb c.args.i c.args.j c.if-i-j.false, eq-eqb _ _ c.if-events-i.false, e) refl
+returns-else-thread-events c =
+    elim c.if-i-j.branch [
+      | then-i-j w ↦ c.if-thread-events.false ∙ rw (lt-ltb c.args.i c.args.j w.if-i-j.true, sym w.value-is ∙ c.if-thread-events.false) refl
+      | else-i-j w ↦ w.value-is ∙ rw (le-ltb c.args.i c.args.j w.if-i-j.false) refl
+    ]

@@ -1,20 +1,25 @@
-use Rattle.std.proofs.Common.{List, length, ap, ◌∙◌, ap₂, ⊎_elim, arith}
-use Rattle.sheet.specs.declared.row.Event.{Event}
-use Rattle.sheet.specs.declared.row.Thread.{Thread}
-use Rattle.execution.specs.Ties.{tied}
+use Rattle.std.proofs.Common.{◌<◌, length, ap, arith}
+use Rattle.sheet.specs.Rules.{no_event}
+use Rattle.sheet.specs.Sheets.{closed_book}
 use Rattle.execution.proofs.Tying.{tied_at, tied_first, tied_second}
 use Rattle.execution.proofs.tie.TiedPairs.related.Goals as goal
 
-pub returns-then-j-events : goal.returns-then-j-events
-returns-then-j-events c =
-    let t = c.args.self.now.tie in
-    c.joins.ensures
-    ∙ tied_at c.threads.result.now c.events-events.result.now t c.args.i c.args.j c.if-i-events.true c.if-j-events.true
-    ∙ ap₂ (λ (ts : List Thread) (es : List Event). tied ts es t c.args.i c.args.j) c.threads.ensures c.events-events.ensures
-
-pub returns-else-i-events : goal.returns-else-i-events
-returns-else-i-events c =
-    let t = c.args.self.now.tie in
+pub returns-in_default : goal.returns-in_default
+returns-in_default c =
     let n = ap length c.events-events.ensures in
-    ⊎_elim (λ h. tied_second _ _ t c.args.i c.args.j (omega arith)) (λ h. tied_first _ _ t c.args.i c.args.j (omega arith))
-    c.else-i-events.either
+    tied_second _ _ c.args.self.now.tie c.args.i c.args.j (omega (arith, n, c.in_default.ensures'.lookup.3))
+
+pub returns-in_default-2 : goal.returns-in_default-2
+returns-in_default-2 c =
+    let n = ap length c.events-events.ensures in
+    tied_first _ _ c.args.self.now.tie c.args.i c.args.j (omega (arith, n, c.in_default.ensures.lookup.3))
+
+pub returns : goal.returns
+returns c =
+    let k = closed_book c.args.self.now.sheet.now in
+    let n = ap length c.events-events.ensures in
+    let l : c.args.i < length k.events = omega (arith, n, c.in-Some-Some.ensures.lookup.3.0) in
+    let m : c.args.j < length k.events = omega (arith, n, c.in-Some-Some.ensures'.lookup.3.0) in
+    let e = c.in-Some-Some.ensures.lookup.3.1 no_event in
+    let f = c.in-Some-Some.ensures'.lookup.3.1 no_event in
+    cc (tied_at k.threads k.events c.args.self.now.tie c.args.i c.args.j l m)

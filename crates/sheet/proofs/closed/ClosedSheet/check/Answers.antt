@@ -3,7 +3,7 @@ use Rattle.sheet.specs.declared.calls.Refusal.TheVariants.{Absent, CannotCarry, 
 use Rattle.sheet.specs.declared.calls.Call.TheVariants.{Lay}
 use Rattle.sheet.specs.Sheets.{closed_book}
 use Rattle.sheet.specs.Book.{absent, full, bad_field, cannot_carry, differ, there}
-use Rattle.sheet.proofs.Laws.{row_1, row_4, row_5, row_6, no_row, refuses, accepts, known_both}
+use Rattle.sheet.proofs.Laws.{row_1, row_4, row_5, row_6, no_row, refuses, accepts}
 use Rattle.sheet.proofs.closed.ClosedSheet.check.Goals as goal
 
 pub returns-then-not-both_known : goal.returns-then-not-both_known
@@ -12,16 +12,6 @@ returns-then-not-both_known c =
     let b = closed_book c.args.self.now in
     let k = Lay c.args.edge c.args.first c.args.second in
     (refuses b k Absent tt (row_1 b k (ap not (sym c.if-not-both_known.ensures)))).0
-
-pub can_carry-requires : goal.can_carry-requires
-can_carry-requires c =
-    let t = c.args.self.now.rows in
-    known_both t.events t.event_count c.args.first c.args.second (sym c.if-not-both_known.ensures)
-
-pub differs-requires : goal.differs-requires
-differs-requires c =
-    let t = c.args.self.now.rows in
-    known_both t.events t.event_count c.args.first c.args.second (sym c.if-not-both_known.ensures)
 
 pub returns-then-not-can_carry : goal.returns-then-not-can_carry
 unfolding absent full bad_field cannot_carry

@@ -9,7 +9,7 @@ use Rattle.sheet.specs.Rules.{thread_fits, no_thread}
 use Rattle.sheet.specs.Sheets.{open_book}
 use Rattle.sheet.specs.Book.{absent, full, bad_field, cannot_carry, differ, there, accepted}
 use Rattle.sheet.proofs.Laws.{row_2, row_3, no_row, refuses, accepts}
-use Rattle.sheet.proofs.Fits.{fit_set, fit_more, more_threads}
+use Rattle.sheet.proofs.Fits.{fit_more, more_threads}
 use Rattle.sheet.proofs.open.OpenSheet.thread.Goals as goal
 
 pub returns-then-n-ge-THREADS : goal.returns-then-n-ge-THREADS
@@ -32,12 +32,6 @@ returns-then-not-thread_fits c =
     ap (λ n. thread_fits (take n t.threads) c.args.block c.args.device) (sym (sub-zero t.thread_count)) ∙ sym c.if-not-thread_fits.ensures in
     let r = refuses b k BadField (length b.threads) (row_3 b k refl (ap not (lt-ltb _ _ (omega arith))) (ap not g)) in
     record { answers = r.0; book = r.1 }
-
-pub invariant_of-self : goal.invariant_of-self
-invariant_of-self c =
-    let t = c.args.self.now.rows in
-    let n = t.thread_count in
-    ((omega arith, omega arith), ((length-set t.threads n _ ∙ omega arith, omega arith), (fit_set thread_comes no_thread t.threads n n _ (omega arith) t.threads_fit, (t.events_fit, tt))))
 
 pub invariant_of-self-2 : goal.invariant_of-self-2
 unfolding thread_comes

@@ -1,18 +1,15 @@
-use Rattle.std.proofs.Common.{◌≡◌, refl, ap, ◌∙◌}
-use Rattle.sheet.specs.Book.{after, ended}
-use Rattle.sheet.specs.Sheets.{closed_book}
-use Rattle.sheet.specs.declared.calls.Call.TheVariants.{Try}
-use Rattle.sheet.proofs.Trials.{standing, tried, untried, ended_trial}
+use Rattle.std.proofs.Common.{Bool, refl, ap, ◌∙◌}
+use Rattle.std.specs.Bool.{then_some}
+use Rattle.sheet.specs.Book.{ended}
+use Rattle.sheet.proofs.Trials.{stands, ended_trial}
 use Rattle.sheet.proofs.trial.Trial.new.Goals as goal
-use Rattle.sheet.proofs.trial.Trial.new.Goals.{in-Ok, in-Err}
 
 pub returns : goal.returns
 returns c =
     let s = c.args.sheet.now in
+    let i = c.args.first in
+    let j = c.args.second in
     let f = c.order.ensures in
-    let b : standing (closed_book c.order.new.self) c.match-order.edge ≡ after (closed_book s) (Try c.args.first c.args.second) =
-    elim c.match-order.branch [
-      | in-Ok w ↦ tried s c.order.new.self c.args.first c.args.second c.match-order.edge c.order.result f.answers f.book _ w.in-Ok.is w.edge-is
-      | in-Err w ↦ untried s c.order.new.self c.args.first c.args.second c.match-order.edge c.order.result f.answers f.book _ w.in-Err.is w.edge-is
-    ] in
-    record { lends = refl; book = b; undone = ap ended b ∙ ended_trial s c.args.first c.args.second }
+    let e = c.then_some-edge.ensures ∙ ap (λ (t : Bool). then_some t (i, j)) c.is_ok.ensures.value in
+    let b = stands s c.order.new.self i j c.then_some-edge.result c.order.result f.answers f.book e in
+    record { lends = refl; book = b; undone = ap ended b ∙ ended_trial s i j }

@@ -1,6 +1,0 @@
-use Rattle.relation.specs.Meaning.{holds}
-use Rattle.cycles.specs.Counts.{apart, Walked}
-use Rattle.cycles.proofs.walk.Given as goal
-
-abbrev pub invariant-loop-i : goal.invariant-loop-i
-invariant-loop-i l = Walked (holds l.r) (apart l.steps) l.start l.len l.initial.memory l.memory l.i
