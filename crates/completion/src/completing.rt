@@ -13,7 +13,8 @@ pub fn complete(order: &Relation, pairs: &OpenPairs, completion: u16) -> Relatio
     ensures { holds result ≡ holds order.now ∪ added (listed pairs.now) completion }
 {
     let mut all = *order;
-    for (i, &(low, high)) in pairs.list.iter().enumerate() {
+    for (i, pair) in pairs.list.iter().enumerate() {
+        let (low, high) = *pair;
         if (completion >> i) & 1 == 1 {
             all.add(high, low);
         } else {

@@ -18,7 +18,7 @@ loop-i-preserved c =
     let n = c.args.completion in
     let i = c.loop-i.i in
     let p : ℕ × ℕ = get_or (listed ps) i (0, 0) in
-    let e : get_or c.deref-low-items.result.now i (0, 0) ≡ p = ap (λ l. get_or l i (0, 0)) c.deref-low-items.ensures.0 in
+    let e : get_or c.deref-pair-items.result.now i (0, 0) ≡ p = ap (λ l. get_or l i (0, 0)) c.deref-pair-items.ensures.0 in
     elim c.if-completion-i-eq1.branch [
       | then-completion-i-eq1 w ↦
           ap holds w.all-is ∙ w.add.ensures
