@@ -39,7 +39,7 @@ impl<'a> Case<'a> {
     }
 
     // The next record with its place, after the sheet has taken its call; a question and the end make none. `None` at the
-    // end of the file. The first fault is told again by every later call, and alters nothing then.
+    // end of the file. The first fault is told again by every later call, and alters nothing then; so this is no `Iterator` either.
     pub fn next(&mut self) -> Result<Option<Record<'a>>, Fault>
         ensures again { (f : Failure) → self.old.next ≡ Err f → result ≡ Err f }
         ensures fault { fault_of self.new.next ≡ kept (fault_of self.old.next) result }

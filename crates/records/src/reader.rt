@@ -1,4 +1,4 @@
-// A reader over the bytes of a file.
+// A reader over the bytes of a file, the form that is asked for: the whole file with a place, so that each record knows its own.
 ghost use Rattle.std.specs.Prelude.{◌≤◌, length};
 
 use crate::mark::Phase;

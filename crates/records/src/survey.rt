@@ -21,6 +21,7 @@ pub struct Tally {
 }
 
 impl Tally {
+    // By name and no `Default`, since the specification names the empty tally.
     pub fn none() -> Tally
         ensures { result ≡ none }
     {
