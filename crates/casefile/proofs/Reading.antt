@@ -93,12 +93,15 @@ rows_first bs cs r (Some x) b d s g e =
     let close : Taken b (closing Rows x.mark) d = subst (λ (ks : List Call). Taken b ks d) (sym (other_closes x.mark v.2)) (may_close b, sym e) in
     (v.0, v.1.before, (Rows, v.1, v.2, taken_more blank b d (calls Rows v.0) (closing Rows x.mark) v.3 close))
 
--- or a fault broke them, and the sheet is empty
-pub begun : (bs cs : List ℕ) (r : Reader) (o : Result (Option Record) Fault) (b c d : Book) → Stopped cs r o b → cs ≡ bs
-    → (is_err o ≡ false → c ≡ b) → (is_err o ≡ true → c ≡ blank) → d ≡ after c Close → Begun bs r o d
-begun bs cs r (Ok n) b c d s g kept none e = rows_first bs cs r n b d s g (e ∙ ap (λ (a : Book). after a Close) (kept refl))
-begun bs cs r (Err f) b c d s g kept none e =
-    (subst (λ (l : List ℕ). Stopped l r (Err f) b) g s, e ∙ ap (λ (a : Book). after a Close) (none refl))
+-- or a fault broke them, and the sheet is empty; n is what the case keeps of it
+pub begun : (bs cs : List ℕ) (r : Reader) (o n : Result (Option Record) Fault) (b c d : Book) → Stopped cs r o b → cs ≡ bs
+    → (is_err o ≡ false → c ≡ b) → (is_err o ≡ true → c ≡ blank) → d ≡ after c Close → o ≡ n → Begun bs r n d
+begun bs cs r o n b c d s g kept none e q = subst (λ (u : Result (Option Record) Fault). Begun bs r u d) q (go o s kept none)
+  where
+    go : (u : Result (Option Record) Fault) → Stopped cs r u b → (is_err u ≡ false → c ≡ b) → (is_err u ≡ true → c ≡ blank) → Begun bs r u d
+    go (Ok m) s kept none = rows_first bs cs r m b d s g (e ∙ ap (λ (a : Book). after a Close) (kept refl))
+    go (Err f) s kept none =
+        (subst (λ (l : List ℕ). Stopped l r (Err f) b) g s, e ∙ ap (λ (a : Book). after a Close) (none refl))
 
 -- without a fault the case stands behind one record more
 pub advanced_behind : (bs : List ℕ) (front : List Item) (r : Reader) (o : Result (Option Record) Fault) (c : Book) (n : Option Record)

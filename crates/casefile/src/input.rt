@@ -1,5 +1,5 @@
 // A case file read into a sheet.
-ghost use Rattle.std.specs.Prelude.{◌≡◌, ℕ, true, false, List, [], ◌∷◌, ◌++◌, length, Some, Result};
+ghost use Rattle.std.specs.Prelude.{◌≡◌, ℕ, true, false, List, [], ◌∷◌, ◌++◌, length, Some, Ok, Result};
 ghost use Rattle.records.specs.Format.{size, is_row};
 ghost use Rattle.records.specs.Grammar.{Item, item as item_of};
 ghost use Rattle.records.specs.Readers.{Fresh};
@@ -48,6 +48,19 @@ fn add(sheet: &mut OpenSheet, item: Record) -> Result<(), Cause>
     Ok(())
 }
 
+// Adds a record that is a thread or an event; tells whether it is one.
+fn add_row(sheet: &mut OpenSheet, item: Record) -> Result<bool, Cause>
+    requires { length item.body.now ≡ size item.mark }
+    ensures row { is_row item.entry.mark ≡ true → Asked (open_book sheet.old) (call_of item.entry.mark item.entry.body.now) true result (open_book sheet.new) }
+    ensures other { is_row item.entry.mark ≡ false → (result ≡ Ok false) × (open_book sheet.new ≡ open_book sheet.old) }
+{
+    if !matches!(item.mark, Mark::Thread | Mark::Event) {
+        return Ok(false);
+    }
+    add(sheet, item)?;
+    Ok(true)
+}
+
 // Lays the edge that a record gives; a question and the end give none.
 fn lay(sheet: &mut ClosedSheet, item: Record) -> Result<(), Cause>
     requires { (length item.body.now ≡ size item.mark) × (is_row item.mark ≡ false) }
@@ -72,16 +85,17 @@ pub(crate) fn take_rows<'a>(
     ensures { Stopped reader.old.file.now reader.new result (open_book sheet.new) }
 {
     while let Some(item) = reader.next()? {
-        if !matches!(item.mark, Mark::Thread | Mark::Event) {
+        let place = item.place;
+        if !add_row(sheet, item).map_err(|cause| Fault { cause, place })? {
             return Ok(Some(item));
         }
-        let place = item.place;
-        add(sheet, item).map_err(|cause| Fault { cause, place })?;
     }
     Ok(None)
 }
 
-// Lays the edge of the record that waits, and reads the next record.
+// Lays the edge of the record that waits, and reads the next record. Part of the loops that call it, so that what it answers is not
+// copied from place to place.
+#[inline(always)]
 pub(crate) fn advance<'a>(
     reader: &mut Reader<'a>,
     sheet: &mut ClosedSheet,

@@ -91,7 +91,7 @@ edges_count k R n m = go m ∙ ap (sum_by row) (map-id (range_with_len 0 m))
         ∙ ap₂ (λ (a b : ℕ). a + b) (go l) (length-map (picked (R l) n) (edge_item k l))
         ∙ sym (sum_by-map-range_with_len_more row (λ x. x) 0 l l (zero-add l)) ∙ ap (λ z. sum_by row (map (λ x. x) (range_with_len 0 z))) (add-one l)
 
-picked_few : (f : ℕ → Bool) (n : ℕ) → length (picked f n) ≤ n
+pub picked_few : (f : ℕ → Bool) (n : ℕ) → length (picked f n) ≤ n
 picked_few f n =
     let xs = range_with_len 0 n in
     omega (arith, ap length (picked_is f n), length-filter f xs, count_by-le-length f xs, length-range_with_len 0 n)

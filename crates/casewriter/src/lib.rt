@@ -13,7 +13,7 @@ ghost use Rattle.casewriter.specs.Written.{Added, Written, FilesTell};
 ghost use Rattle.casefile.specs.Files.{Reads};
 
 use crate::writer::Writer;
-use relation::Relation;
+use relation::{EVENTS, Relation};
 use sheet::calls::{Edge, Refusal};
 use sheet::closed::ClosedSheet;
 use sheet::row::{Event, Thread};
@@ -81,7 +81,8 @@ fn put_edges(out: &mut Writer, r: &Relation, edge: Edge, n: usize, i: usize)
     requires { (n ≤ 64) × (i < n) }
     ensures { Added out.old (bytes (map (edge_item edge i) (picked (holds r.now i) n))) out.new }
 {
-    for j in 0..n {
+    // `min` alters nothing, but tells the compiler that each j is an event, so that `has` need not ask it.
+    for j in 0..n.min(EVENTS) {
         if r.has(i, j) {
             out.put(&encode_edge(edge, i as u8, j as u8));
         }
@@ -105,7 +106,8 @@ fn row_count(r: &Relation, n: usize, i: usize) -> usize
     ensures count { result ≡ length (picked (holds r.now i) n) }
     ensures few { result ≤ 64 }
 {
-    (0..n).filter(|j| r.has(i, *j)).count()
+    // `min` alters nothing, but tells the compiler that each j is an event, so that `has` need not ask it.
+    (0..n.min(EVENTS)).map(|j| usize::from(r.has(i, j))).sum()
 }
 
 // How many edges of one sort there are.

@@ -19,13 +19,20 @@ impl<'a> Writer<'a> {
         Writer { memory, at: 0 }
     }
 
-    // Puts bytes behind those that are written, as many as fit.
+    // Puts bytes behind those that are written, as many as fit. A part that fits whole has a branch of its own, where the compiler
+    // knows the length to copy.
     pub(crate) fn put(&mut self, part: &[u8])
         ensures { Added self.old part.now self.new }
     {
-        let count = part.len().min(self.memory.len() - self.at);
-        self.memory[self.at..self.at + count].copy_from_slice(&part[..count]);
-        self.at += count;
+        let room = self.memory.len() - self.at;
+        if part.len() <= room {
+            let end = self.at + part.len();
+            self.memory[self.at..end].copy_from_slice(part);
+            self.at = end;
+        } else {
+            self.memory[self.at..].copy_from_slice(&part[..room]);
+            self.at += room;
+        }
     }
 
     // How many bytes are written.

@@ -1,7 +1,6 @@
 -- What the loops of `close` keep, turn by turn. Assumes nothing.
-use Rattle.std.proofs.Common.{◌≡◌, ℕ, suc, ◌+◌, ◌-◌, ◌*◌, ◌/◌, ◌<◌, ◌≤◌, List, ◌++◌, length, get_or, take, drop, sym, refl, ap, ◌∙◌, subst, ap₂, ⊎_elim, add-one, arith, length-drop}
+use Rattle.std.proofs.Common.{◌≡◌, ℕ, suc, ◌+◌, ◌-◌, ◌*◌, ◌<◌, ◌≤◌, List, ◌++◌, length, get_or, take, drop, sym, refl, ap, ◌∙◌, subst, ap₂, ⊎_elim, add-one, arith, length-drop}
 use Rattle.std.proofs.lemmas.List.{get_or-take, get_or-drop, get_or_read, get_or_append_left, get_or-append_right, get_or-append-add, length-take-le}
-use Rattle.std.proofs.Math.Nat.{mul-div_cancel}
 use native.Mathlib.Decide.{dec_lt}
 use borrow.Rule.Slice.PartMut.{put_mid}
 use Rattle.closure.specs.Steps.{Laws, table, Relaxed, Swept, Passed, Closed, walks, Joins}
@@ -46,13 +45,11 @@ module _ {S : Type 0} (none : S) (join chain : S → S → S) (k : ℕ) (over be
 -- ---- a pass: two sweeps, of the rows above row k and of those below it
 module _ {S : Type 0} {none : S} {join chain : S → S → S} (laws : Laws none join chain) (k : ℕ) (above over below : List S) (p : k < length over)
     (up : length above ≡ k * length over) (down : length below ≡ (length over - suc k) * length over) where
-  pub passed_parts : (xs zs : List S) → length xs ≡ length above
-      → Swept none join chain k over above xs (length above / length over) → Swept none join chain k over below zs (length below / length over)
+  pub passed_parts : (xs zs : List S) (m : ℕ) → length over ≡ suc k + m → length xs ≡ length above
+      → Swept none join chain k over above xs k → Swept none join chain k over below zs m
       → Passed none join chain (length over) k (above ++ (over ++ below)) (xs ++ (over ++ zs))
-  passed_parts xs zs same f g =
+  passed_parts xs zs m left same f g =
       let n = length over in
-      let rows : length above / n ≡ k = ap (λ x. x / n) up ∙ mul-div_cancel k (omega arith) in
-      let rest : length below / n ≡ n - suc k = ap (λ x. x / n) down ∙ mul-div_cancel (n - suc k) (omega arith) in
       let first : (us ws : List S) (a b : ℕ) → length us ≡ length above → a < k → b < n → table none n (us ++ (over ++ ws)) a b ≡ table none n us a b =
       λ us ws a b e l m. get_or_append_left us _ none (a * n + b) (omega (arith, row_end n a k l)) in
       let mid : (us ws : List S) (b : ℕ) → length us ≡ length above → b < n → table none n (us ++ (over ++ ws)) k b ≡ get_or over b none =

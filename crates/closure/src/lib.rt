@@ -2,7 +2,7 @@
 // and chaining keep the laws of `Laws`.
 #![tactic(auto)]
 
-ghost use Rattle.std.specs.Prelude.{◌≡◌, ◌*◌, ◌/◌, ◌<◌, ◌≤◌, false, ◌&&◌, ◌||◌, length, Ok, Err};
+ghost use Rattle.std.specs.Prelude.{◌≡◌, ◌*◌, ◌<◌, ◌≤◌, false, ◌&&◌, ◌||◌, length, Ok, Err};
 ghost use Rattle.closure.specs.declared.Misfit.{Misfit as Reason};
 ghost use Rattle.closure.specs.Kinds.{no_steps, fewer, further};
 ghost use Rattle.closure.specs.Fitting.{fitting};
@@ -55,14 +55,15 @@ fn relax<S: Step + Copy>(row: &mut [S], via: S, over: &[S])
     }
 }
 
-// Joins the way over k, whose own row is `over`, to each of these rows.
-fn sweep<S: Step + Copy>(rows: &mut [S], k: usize, over: &[S])
-    requires { k < length over.now }
-    ensures { Swept S.none S.join S.chain k over.now rows.old rows.new (length rows.old / length over.now) }
+// Joins the way over k, whose own row is `over`, to each of these rows. How many they are is the caller's to tell: a division of
+// the lengths would cost more than all else in a small table.
+fn sweep<S: Step + Copy>(rows: &mut [S], count: usize, k: usize, over: &[S])
+    requires { (length rows.old ≡ count * length over.now) × (k < length over.now) }
+    ensures { Swept S.none S.join S.chain k over.now rows.old rows.new count }
 {
     let n = over.len();
     // After `chunks_exact_mut` a proof knows no entry of the rows, so each row is cut out by its range.
-    for i in 0..rows.len() / n {
+    for i in 0..count {
         let row = &mut rows[i * n..(i + 1) * n];
         let via = row[k];
         relax(row, via, over);
@@ -77,8 +78,8 @@ fn pass<S: Step + Copy>(table: &mut [S], n: usize, k: usize)
 {
     let (above, rest) = table.split_at_mut(k * n);
     let (over, below) = rest.split_at_mut(n);
-    sweep(above, k, over);
-    sweep(below, k, over);
+    sweep(above, k, k, over);
+    sweep(below, n - k - 1, k, over);
 }
 
 // Closes, in place, the table of n rows and n columns at the front of the slice, entry (i, j) at i * n + j. A table of

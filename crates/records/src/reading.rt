@@ -30,7 +30,8 @@ fn sign_of(rest: &[u8]) -> Sign
 }
 
 // The phase together with the mark just read: which record follows and the phase behind it, that the file is over, or why
-// neither can be.
+// neither can be. Each mark has an arm of its own, so that the compiler knows its size there and takes one way from the letters
+// to the body.
 fn due(phase: Phase, sign: Sign) -> Result<Option<(Mark, Phase)>, Cause>
     ensures { Due phase sign result }
 {
@@ -39,13 +40,15 @@ fn due(phase: Phase, sign: Sign) -> Result<Option<(Mark, Phase)>, Cause>
         (Phase::Ended, _) => Err(Cause::Trailing),
         (_, Sign::Nothing | Sign::Half) => Err(Cause::Cut),
         (_, Sign::Unknown) => Err(Cause::UnknownMark),
-        (Phase::Rows, Sign::Known(mark @ (Mark::Thread | Mark::Event))) => Ok(Some((
-            mark,
-            Phase::Rows,
-        ))),
+        (Phase::Rows, Sign::Known(Mark::Thread)) => Ok(Some((Mark::Thread, Phase::Rows))),
+        (Phase::Rows, Sign::Known(Mark::Event)) => Ok(Some((Mark::Event, Phase::Rows))),
         (Phase::Edges, Sign::Known(Mark::Thread | Mark::Event)) => Err(Cause::LateRow),
+        (_, Sign::Known(Mark::ReadFrom)) => Ok(Some((Mark::ReadFrom, Phase::Edges))),
+        (_, Sign::Known(Mark::Order)) => Ok(Some((Mark::Order, Phase::Edges))),
+        (_, Sign::Known(Mark::Atomic)) => Ok(Some((Mark::Atomic, Phase::Edges))),
+        (_, Sign::Known(Mark::Depend)) => Ok(Some((Mark::Depend, Phase::Edges))),
+        (_, Sign::Known(Mark::Question)) => Ok(Some((Mark::Question, Phase::Edges))),
         (_, Sign::Known(Mark::End)) => Ok(Some((Mark::End, Phase::Ended))),
-        (_, Sign::Known(mark)) => Ok(Some((mark, Phase::Edges))),
     }
 }
 

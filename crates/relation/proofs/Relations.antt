@@ -24,10 +24,11 @@ unfolding holds
 holds_past r i l = ap (λ t. only_if t (members (get_or r.rows i blank))) (le-ltb i 64 l) ∙ only_false (members (get_or r.rows i blank))
 
 -- the row that `get` lends, and an empty one where it lends none
-pub row_got : (r : Relation) (i : ℕ) (o : Option (Bor Row)) (empty x : Row) → length r.rows ≡ 64 → IsItemAt r.rows i o → members empty ≡ nothing
+pub row_got : (r : Relation) (i k : ℕ) (o : Option (Bor Row)) (empty x : Row) → length r.rows ≡ 64 → k ≡ i → IsItemAt r.rows k o → members empty ≡ nothing
     → x ≡ unwrap_or (option_copied o) empty → members x ≡ holds r i
-row_got r i None empty x long got none e = ap members e ∙ none ∙ sym (holds_past r i (omega (arith, got.3)))
-row_got r i (Some y) empty x long got none e = ap members (e ∙ got.3.1 blank) ∙ sym (holds_row r i (omega (arith, got.3.0)))
+row_got r i k None empty x long same got none e = ap members e ∙ none ∙ sym (holds_past r i (omega (arith, got.3)))
+row_got r i k (Some y) empty x long same got none e =
+    ap members (e ∙ got.3.1 blank) ∙ sym (holds_row r k (omega (arith, got.3.0))) ∙ ap (holds r) same
 
 -- a relation by its rows
 pub holds_by : (r : Relation) (s : Rel) → ((i : ℕ) → i < 64 → members (get_or r.rows i blank) ≡ s i)

@@ -3,7 +3,7 @@ use Rattle.std.proofs.Common.{◌≡◌, ℕ, ◌-◌, ◌^◌, ◌<◌, ◌≤�
 use mathlib.Core.Path.{fun_ext}
 use lib.Bits.{bit_and, bit_or}
 use Rattle.std.specs.Cmp.{both_ways}
-use Rattle.std.proofs.Math.Bool.{and-true, not-not}
+use Rattle.std.proofs.Math.Bool.{and-true, not-not, and_comm}
 use Rattle.std.proofs.lemmas.Bool.{and_right, and_from, and_parts, eqb-true, cases_lt, cases_eq, lt-ltb, le-ltb, eq-eqb, ne_eqb}
 use Rattle.relation.specs.Algebra.{Set, nothing, everything, single, below, either, both, except, only_if, some_below, least_below}
 use Rattle.relation.specs.Bits.{member}
@@ -69,6 +69,10 @@ pub row_single : (r : Row) (i : ℕ) → i < 64 → r.bits ≡ 2 ^ i → members
 row_single r i h e =
     members_by r (single i) (λ j l. ap (λ n. member n j) e ∙ member_single i j ∙ sym (single_event i j h))
     (λ j l. single_event i j h ∙ ne_eqb i j (λ q. omega arith))
+
+pub both_comm : (a b : Set) → both a b ≡ both b a
+unfolding both
+both_comm a b = fun_ext (λ j. and_comm (a j) (b j))
 
 -- i is in a where a and the set of i have an event in common
 pub meets_single : (r : Row) (i : ℕ) → some_below 64 (both (members r) (single i)) ≡ members r i

@@ -18,6 +18,7 @@ use std::ops::ControlFlow;
 
 // The call after a try: the end of the trial, or the calls stop. Where the try was refused, no trial stands and the calls
 // go on. Tells the calls that are left.
+#[tactic(auto, using(crate::proofs::Steps::ended_idle))]
 fn trial_turn<'c>(
     trial: &Trial,
     calls: &'c [Call],

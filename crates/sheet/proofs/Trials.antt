@@ -26,7 +26,7 @@ refused_alike b i j = refl
 
 module _ (s t : ClosedSheet) (i j : ℕ) (o : Option (ℕ × ℕ)) (r : Result (Unit {0}) Refusal)
     (answers : r ≡ given (refusal (closed_book s) (Lay Order i j)) tt) (book : closed_book t ≡ after (closed_book s) (Lay Order i j)) where
-  tried : (u : Unit {0}) → r ≡ Ok u → o ≡ Some (i, j) → standing (closed_book t) o ≡ after (closed_book s) (Try i j)
+  pub tried : (u : Unit {0}) → r ≡ Ok u → o ≡ Some (i, j) → standing (closed_book t) o ≡ after (closed_book s) (Try i j)
   unfolding accepted
   tried u e f =
       let b = closed_book s in
@@ -34,7 +34,7 @@ module _ (s t : ClosedSheet) (i j : ℕ) (o : Option (ℕ × ℕ)) (r : Result (
       ap (λ (c : Book). standing c o) (book ∙ sym (accepts b (Lay Order i j) (tt {0}) n).1)
       ∙ ap (standing (accepted b (Lay Order i j))) f ∙ (accepts b (Try i j) (tt {0}) (refused_alike b i j ∙ n)).1
 
-  untried : (e : Refusal) → r ≡ Err e → o ≡ None → standing (closed_book t) o ≡ after (closed_book s) (Try i j)
+  pub untried : (e : Refusal) → r ≡ Err e → o ≡ None → standing (closed_book t) o ≡ after (closed_book s) (Try i j)
   untried e q f =
       let b = closed_book s in
       let n : refusal b (Lay Order i j) ≡ Some e = given_some (refusal b (Lay Order i j)) (tt {0}) e (sym q ∙ answers) in

@@ -91,7 +91,8 @@ impl ClosedSheet {
         Ok(())
     }
 
-    // Lays the edge, if it may be laid.
+    // Lays the edge, if it may be laid. Each sort of edge gets a copy of its own in what follows, with the checks of that sort alone.
+    #[inline(always)]
     pub fn lay(&mut self, edge: Edge, first: u8, second: u8) -> Result<(), Refusal>
         ensures answers { result ≡ given (refusal (closed_book self.old) (Lay edge first second)) tt }
         ensures book { closed_book self.new ≡ after (closed_book self.old) (Lay edge first second) }

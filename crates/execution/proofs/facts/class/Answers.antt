@@ -1,4 +1,5 @@
-use Rattle.std.proofs.Common.{◌≡◌, ◌<◌, length, ap, ◌∙◌, arith}
+use Rattle.std.proofs.Common.{◌≡◌, ◌<◌, length, sym, ap, ◌∙◌, ap₂, arith, rules}
+use Rattle.relation.specs.Algebra.{either, only_if}
 use Rattle.relation.proofs.Below.{upto_none, upto_more}
 use Rattle.sheet.specs.Rules.{at}
 use Rattle.sheet.specs.Sheets.{closed_book}
@@ -14,7 +15,8 @@ loop-i-preserved c =
     let s = c.args.sheet.now in
     let n = ap length c.events-e-items.ensures in
     let l : c.loop-i.i < 64 = omega (arith, few_events s) in
-    cc (upto_more c.loop-i.i (λ a. in_class c.args.class (at (closed_book s).events a)) l)
+    c.union-all.ensures ∙ ap₂ either c.loop-i.invariant (c.only_if.ensures ∙ ap₂ only_if (search rules) c.of.ensures)
+    ∙ sym (upto_more c.loop-i.i (λ a. in_class c.args.class (at (closed_book s).events a)) l)
 
 pub returns : goal.returns
 unfolding those

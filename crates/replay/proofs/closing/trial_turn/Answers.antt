@@ -1,18 +1,12 @@
-use Rattle.std.proofs.Common.{◌≡◌, false, ◌∷◌, length, Ok, None, vec_items, sym, refl, ap, ◌∙◌, arith}
+use Rattle.std.proofs.Common.{◌≡◌, false, ◌∷◌, length, Ok, None, vec_items, refl, ap, ◌∙◌, arith}
 use Rattle.std.proofs.lemmas.Bool.{eq-eqb, ne_eqb}
 use Rattle.sheet.specs.declared.calls.Call.TheVariants.{End}
 use Rattle.sheet.specs.Book.{ended}
 use Rattle.sheet.specs.Trials.{trial_book}
-use Rattle.replay.specs.Runs.{told, run}
 use Rattle.replay.specs.Phases.{Halts}
 use Rattle.replay.proofs.Places.{end_answer, end_ends, end_in_place, out_of_trial}
-use Rattle.replay.proofs.Steps.{goes_one, halts_out, halts_end, ended_idle, stops_shown}
+use Rattle.replay.proofs.Steps.{goes_one, halts_out, halts_end, stops_shown}
 use Rattle.replay.proofs.closing.trial_turn.Goals as goal
-
-pub returns-in_default : goal.returns-in_default
-returns-in_default c =
-    let e = ended_idle (trial_book c.args.trial.now) (sym c.edge.ensures ∙ c.in_default.is) in
-    (omega arith, ap (λ z. told (vec_items c.args.answers.now) (run z c.args.calls.now)) (sym e))
 
 pub returns-in_default-split_first : goal.returns-in_default-split_first
 returns-in_default-split_first c =

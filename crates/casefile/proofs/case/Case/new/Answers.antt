@@ -18,5 +18,5 @@ returns c =
       | then-is_err w ↦ λ e. ap open_book w.rows-is ∙ w.new-rows-then-is_err.ensures
       | else-is_err w ↦ λ e. absurd (let z : ◌≡◌ {A = ℕ} 0 1 = cc in omega arith)
     ] in
-    begun c.args.file.now _ _ c.take_rows-next.result _ (open_book c.if-is_err.rows) _ c.take_rows-next.ensures c.new-reader.ensures.0 kept none
-    c.close.ensures
+    begun c.args.file.now _ _ c.take_rows-next.result _ _ (open_book c.if-is_err.rows) _ c.take_rows-next.ensures c.new-reader.ensures.0 kept none
+    c.close.ensures (grind arith)
